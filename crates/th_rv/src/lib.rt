@@ -1,2 +1,6 @@
-//! Not written yet.
+//! Instructions of RV32IM: the words that spell them, and what each does.
 #![tactic(auto)]
+
+mod instr;
+
+pub use instr::{Cause, Instr};
