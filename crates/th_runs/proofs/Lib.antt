@@ -1,0 +1,5 @@
+pub mod Prefixes
+pub mod Bounded
+pub mod Steps
+pub mod Whole
+pub mod Agrees
