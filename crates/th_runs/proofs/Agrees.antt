@@ -1,8 +1,8 @@
 -- A simulation gives the agreement.
-use Rattle.std.proofs.Common.{◌≡◌, ◌≢◌, ℕ, suc, ◌+◌, ◌*◌, ◌≤◌, List, Option, Some, None, refl, sym, ap, ◌∙◌, subst, ◌⊎◌, inl, inr, ⊎_elim, arith}
+use Rattle.std.proofs.Common.{◌≡◌, ◌≢◌, ℕ, suc, ◌+◌, ◌*◌, ◌≤◌, List, Option, Some, None, sym, ap, ◌∙◌, subst, ◌⊎◌, inl, inr, ⊎_elim, arith}
 use Rattle.th_world.specs.Event.{Event, Prefix}
 use Rattle.th_runs.specs.Stand.{End, GoesOn, Ended, Raised, NoTurns, NoRoom, Trapped, Stand}
-use Rattle.th_runs.specs.Runs.{Program, Machine, bounded_run, steps, machine_run}
+use Rattle.th_runs.specs.Runs.{Program, Machine, bounded_run, steps}
 use Rattle.th_runs.specs.Agreement.{Agreement, HasDone}
 use Rattle.th_runs.specs.Simulation.{Simulation}
 use Rattle.th_runs.proofs.Prefixes.{prefix_refl, prefix_trans}
@@ -110,7 +110,7 @@ module _ (G S : Type 0) (p : Program G) (m : Machine S) (Meets : G → S → Typ
         raises_alike = λ k x h. let e = told_raise _ _ _ x h (told k) in (ap (λ y. y.end) e, ap (λ y. y.trace) e);
         prefix = λ k h. told_prefix _ _ _ h (told k);
         room = full;
-        pace = λ n. reached (2 * words * (n + 1)) n (sim.bounded n)
+        pace = λ n. reached (2 * words * (n + 1)) n (sim.bounded n);
       }
 
 -- a machine that does a program operation by operation agrees with its source

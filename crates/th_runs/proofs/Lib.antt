@@ -3,3 +3,4 @@ pub mod Bounded
 pub mod Steps
 pub mod Whole
 pub mod Agrees
+pub mod Example

@@ -1,5 +1,5 @@
 -- Runs step by step: of a program by its operations, with turns and room, and of a machine by its instructions.
-use Rattle.std.specs.Prelude.{◌≡◌, ℕ, zero, suc, ◌+◌, ◌-◌, List, Option, Some, None, Bool, true, false, nat_lt, cond}
+use Rattle.std.specs.Prelude.{ℕ, zero, suc, ◌+◌, ◌-◌, List, Option, Some, None, Bool, false, nat_lt, cond}
 use Rattle.th_world.specs.Event.{Event}
 use Rattle.th_runs.specs.Stand.{End, GoesOn, Ended, Raised, NoTurns, NoRoom, Trapped, Stand}
 
@@ -44,10 +44,10 @@ abbrev pub bounded_run : {G : Type 0} → Program G → Option ℕ → ℕ → �
 bounded_run p room zero turns g = record { end = p.end g; trace = p.trace g }
 bounded_run p room (suc operations) turns g =
     while_on (p.end g)
-      (cond (nat_lt turns (p.cost g)) (record { end = NoTurns; trace = p.trace g })
-        (cond (exceeds (p.used g + p.need g) room) (record { end = NoRoom; trace = p.trace g })
-          (bounded_run p room operations (turns - p.cost g) (p.next g))))
-      (record { end = p.end g; trace = p.trace g })
+    (cond (nat_lt turns (p.cost g)) (record { end = NoTurns; trace = p.trace g })
+    (cond (exceeds (p.used g + p.need g) room) (record { end = NoRoom; trace = p.trace g })
+    (bounded_run p room operations (turns - p.cost g) (p.next g))))
+    (record { end = p.end g; trace = p.trace g })
 
 -- the state of a machine after so many steps
 abbrev pub steps : {S : Type 0} → Machine S → ℕ → S → S

@@ -30,9 +30,9 @@ pub record Stops {G S : Type 0} (p : Program G) (m : Machine S) (size : G → �
   pub short : region < p.used g + p.need g
 
 -- the machine m does the program p: `Meets g s` says that the machine's state s stands for the program's state g,
--- `size g` bounds the instructions of the operation of g, `pot n g` those of all operations from g on with n turns;
+-- `size g` bounds the instructions of the operation of g, `potential n g` those of all operations from g on with n turns;
 -- the machine's stands `machine` are its run from s0, and the source's stands `source` are runs of p from g0
-pub record Simulation {G S : Type 0} (p : Program G) (m : Machine S) (Meets : G → S → Type 0) (size : G → ℕ) (pot : ℕ → G → ℕ) (g0 : G) (s0 : S) (source : Option ℕ → ℕ → Stand) (machine : ℕ → Stand) (region words : ℕ) : Type 0 where
+pub record Simulation {G S : Type 0} (p : Program G) (m : Machine S) (Meets : G → S → Type 0) (size : G → ℕ) (potential : ℕ → G → ℕ) (g0 : G) (s0 : S) (source : Option ℕ → ℕ → Stand) (machine : ℕ → Stand) (region words : ℕ) : Type 0 where
   -- a machine that no longer goes on stays as it is, and a step only adds to the trace
   pub stays : (s : S) → m.end s ≢ GoesOn → m.step s ≡ s
   pub grows : (s : S) → Prefix (m.trace s) (m.trace (m.step s))
@@ -45,10 +45,10 @@ pub record Simulation {G S : Type 0} (p : Program G) (m : Machine S) (Meets : G 
   -- from states that meet the machine does the operation, or stops for room
   pub law : (g : G) (s : S) → Meets g s → p.end g ≡ GoesOn → Moves p m Meets size g s ⊎ Stops p m size region g s
   -- each operation pays its instructions
-  pub falls : (n : ℕ) (g : G) (s : S) → Meets g s → p.end g ≡ GoesOn → p.cost g ≤ n → size g + pot (n - p.cost g) (p.next g) ≤ pot n g
+  pub falls : (n : ℕ) (g : G) (s : S) → Meets g s → p.end g ≡ GoesOn → p.cost g ≤ n → size g + potential (n - p.cost g) (p.next g) ≤ potential n g
   -- the starts meet, and with n turns the instructions from there are at most 2 * words * (n + 1)
   pub starts : Meets g0 s0
-  pub bounded : (n : ℕ) → pot n g0 ≤ 2 * words * (n + 1)
+  pub bounded : (n : ℕ) → potential n g0 ≤ 2 * words * (n + 1)
   -- the machine's stands, and the source's, which never goes on
   pub machine_is : (k : ℕ) → machine k ≡ machine_run m k s0
   pub source_is : (room : Option ℕ) (turns : ℕ) → (operations : ℕ) × (source room turns ≡ bounded_run p room operations turns g0)
