@@ -1,0 +1,72 @@
+-- Each result is a word where the operands are words.
+use Rattle.std.proofs.Common.{◌≡◌, ℕ, ◌+◌, ◌-◌, ◌*◌, ◌/◌, ◌%◌, ◌^◌, ◌<◌, ◌≤◌, Bool, true, false, nat_lt, nat_eq, bit_and, bit_or, bit_xor, refl, sym, ap, ◌∙◌, subst, arith}
+use Rattle.std.proofs.lemmas.Nat.{and_le_l, or_of_32, xor_of_32, shr_le}
+use Rattle.th_word.specs.Word.{word_add, word_sub, biased, flag_word, signed_less, extended, extend_8, extend_12, extend_13, extend_16, extend_21, shift_left, shift_right, shift_right_signed, multiply, multiply_high, multiply_high_mixed, multiply_high_unsigned, divide, divide_unsigned, remainder, remainder_unsigned, magnitude, with_sign}
+
+pub word_add-word : (a b : ℕ) → word_add a b < 2 ^ 32
+word_add-word a b = omega arith
+
+pub word_sub-word : (a b : ℕ) → word_sub a b < 2 ^ 32
+word_sub-word a b = omega arith
+
+pub biased-word : (a : ℕ) → biased a < 2 ^ 32
+biased-word a = omega arith
+
+pub bit_and-word : (a b : ℕ) → a < 2 ^ 32 → bit_and a b < 2 ^ 32
+bit_and-word a b h = omega (arith, and_le_l a b)
+
+pub bit_or-word : (a b : ℕ) → a < 2 ^ 32 → b < 2 ^ 32 → bit_or a b < 2 ^ 32
+bit_or-word a b h k = or_of_32 a b h k
+
+pub bit_xor-word : (a b : ℕ) → a < 2 ^ 32 → b < 2 ^ 32 → bit_xor a b < 2 ^ 32
+bit_xor-word a b h k = xor_of_32 a b h k
+
+pub flag_word-word : (b : Bool) → flag_word b < 2 ^ 32
+flag_word-word true = omega arith
+flag_word-word false = omega arith
+
+pub flag_word-le : (b : Bool) → flag_word b ≤ 1
+flag_word-le true = omega arith
+flag_word-le false = omega arith
+
+pub extend_8-word : (n : ℕ) → n < 2 ^ 8 → extend_8 n < 2 ^ 32
+extend_8-word n h = grind arith
+
+pub extend_12-word : (n : ℕ) → n < 2 ^ 12 → extend_12 n < 2 ^ 32
+extend_12-word n h = grind arith
+
+pub extend_13-word : (n : ℕ) → n < 2 ^ 13 → extend_13 n < 2 ^ 32
+extend_13-word n h = grind arith
+
+pub extend_16-word : (n : ℕ) → n < 2 ^ 16 → extend_16 n < 2 ^ 32
+extend_16-word n h = grind arith
+
+pub extend_21-word : (n : ℕ) → n < 2 ^ 21 → extend_21 n < 2 ^ 32
+extend_21-word n h = grind arith
+
+pub extended-double : (a : ℕ) → a < 2 ^ 32 → extended a < 2 ^ 64
+extended-double a h = grind arith
+
+pub shift_left-word : (a b : ℕ) → shift_left a b < 2 ^ 32
+shift_left-word a b = omega arith
+
+pub shift_right-word : (a b : ℕ) → a < 2 ^ 32 → shift_right a b < 2 ^ 32
+shift_right-word a b h = omega (arith, shr_le a (b % 32))
+
+pub shift_right_signed-word : (a b : ℕ) → shift_right_signed a b < 2 ^ 32
+shift_right_signed-word a b = omega arith
+
+pub multiply-word : (a b : ℕ) → multiply a b < 2 ^ 32
+multiply-word a b = omega arith
+
+pub multiply_high-word : (a b : ℕ) → multiply_high a b < 2 ^ 32
+multiply_high-word a b = half (extended a * extended b)
+  where
+    half : (n : ℕ) → n % 2 ^ 64 / 2 ^ 32 < 2 ^ 32
+    half n = omega arith
+
+pub multiply_high_mixed-word : (a b : ℕ) → multiply_high_mixed a b < 2 ^ 32
+multiply_high_mixed-word a b = half (extended a * b)
+  where
+    half : (n : ℕ) → n % 2 ^ 64 / 2 ^ 32 < 2 ^ 32
+    half n = omega arith
