@@ -3,7 +3,8 @@
 //! every word, runs in constant time and takes no memory.
 #![tactic(auto)]
 
-ghost use Rattle.std.specs.Prelude.{◌≡◌, ◌^◌, ◌<◌, bit_and, bit_or, bit_xor, nat_lt};
+ghost use Rattle.std.specs.Prelude.{◌≡◌, ◌/◌, ◌^◌, ◌<◌, bit_and, bit_or, bit_xor, nat_lt};
+ghost use Rattle.std.specs.Int.{w32, w64, cast_signed, cast_unsigned};
 ghost use Rattle.th_word.specs.Word.{word_add, word_sub, is_negative, signed_less, flag_word, extend_8, extend_12, extend_13, extend_16, extend_21, shift_left, shift_right, shift_right_signed, multiply, multiply_high, multiply_high_mixed, multiply_high_unsigned, divide, divide_unsigned, remainder, remainder_unsigned};
 
 /// The sum modulo 2^32.
@@ -144,20 +145,32 @@ pub const fn multiply(a: u32, b: u32) -> u32
     a.wrapping_mul(b)
 }
 
+/// The signed number that the word spells.
+const fn signed(a: u32) -> i64
+    ensures { result ≡ cast_signed w32 a }
+{
+    a.cast_signed() as i64
+}
+
+/// The high half of a product in 64 bits.
+const fn high_half(product: i64) -> u32
+    ensures { result ≡ cast_unsigned w64 product / 2 ^ 32 }
+{
+    ((product >> 32) as i32).cast_unsigned()
+}
+
 /// The high half of the product of two signed numbers.
 pub const fn multiply_high(a: u32, b: u32) -> u32
     ensures { result ≡ multiply_high a b }
 {
-    let product = a.cast_signed() as i64 * b.cast_signed() as i64;
-    ((product >> 32) as i32).cast_unsigned()
+    high_half(signed(a) * signed(b))
 }
 
 /// The high half of the product of the signed number `a` and the unsigned number `b`.
 pub const fn multiply_high_mixed(a: u32, b: u32) -> u32
     ensures { result ≡ multiply_high_mixed a b }
 {
-    let product = a.cast_signed() as i64 * b as i64;
-    ((product >> 32) as i32).cast_unsigned()
+    high_half(signed(a) * b as i64)
 }
 
 /// The high half of the product of two unsigned numbers.

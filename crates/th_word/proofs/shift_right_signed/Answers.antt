@@ -1,7 +1,6 @@
-use Rattle.std.proofs.Common.{rules, ◌≡◌, ◌^◌, ◌<◌, bit_and, bit_or, bit_xor, nat_lt, ℕ, ◌+◌, ◌-◌, ◌*◌, ◌≤◌, length, ◌/◌, ◌%◌, Bool, true, false, nat_eq, ℤ, pos, ◌+ℤ◌, ◌-ℤ◌, ◌*ℤ◌, ◌≤ℤ◌, ◌<ℤ◌, w32, w64, FitsSigned, to_z, of_z}
-use Rattle.std.specs.Int.{int_shr}
-use Rattle.th_word.specs.Word.{multiply_high, multiply_high_mixed, shift_right_signed, divide, extended}
+use Rattle.th_word.proofs.TwosComplement.{shift_right_signed-casts}
 use Rattle.th_word.proofs.shift_right_signed.Goals as goal
 
+-- The casts and the shift of the signed number come to the definition.
 pub returns : goal.returns
-returns c = let h = c.cast_unsigned.ensures in let k = c.cast_signed.ensures in ?
+returns c = shift_right_signed-casts c.args.a c.args.b _ _ _ c.ranges.a.fits c.cast_signed.ensures c.wrapping_shr.ensures c.cast_unsigned.ensures
