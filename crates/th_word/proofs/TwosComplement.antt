@@ -1,12 +1,12 @@
 -- The definitions on words, by the signed numbers that the words spell.
-use Rattle.std.proofs.Common.{◌≡◌, ℕ, zero, suc, ◌+◌, ◌-◌, ◌*◌, ◌/◌, ◌%◌, ◌^◌, ◌<◌, ◌≤◌, Bool, true, false, nat_lt, nat_eq, cond, refl, sym, ap, ◌∙◌, subst, ◌⊎◌, inl, inr, ⊎_elim, arith, rules, unsigned_abs, ℤ, pos, negsuc, ◌*ℤ◌, neg_ℤ, w32, w64, FitsSigned, to_z, of_z, int_div}
-use Rattle.std.proofs.lemmas.Bool.{cases_lt, lt-ltb, le-ltb, cond-true, cond-false, ne_eqb}
+use Rattle.std.proofs.Common.{◌≡◌, ℕ, zero, suc, ◌+◌, ◌-◌, ◌*◌, ◌/◌, ◌%◌, ◌^◌, ◌<◌, ◌≤◌, Bool, true, false, nat_eq, refl, sym, ap, ◌∙◌, subst, arith, rules, unsigned_abs, ℤ, pos, negsuc, ◌*ℤ◌, neg_ℤ, w32, w64, FitsSigned, to_z, of_z, int_div}
+use Rattle.std.proofs.lemmas.Bool.{lt-ltb, le-ltb, cond-false}
 use Rattle.std.proofs.lemmas.Int.{ints, to_z_pos, to_z-of_z, of_z-to_z, int_wrap_fits, wrapping_mul_is, fits_signed_mul, fits_signed_from_abs}
 use Rattle.std.proofs.lemmas.Nat.{pow_pos, pow-add, div-mul-add, div-add-mod', mod_below, shr_le}
-use Rattle.std.proofs.Math.Nat.{div-le_self, mod-le}
+use Rattle.std.proofs.Math.Nat.{div-le_self}
 use Rattle.std.specs.Int.{int_shr, int_wrapping_div}
 use Rattle.th_word.proofs.Words.{magnitude-le, divide-word}
-use Rattle.th_word.specs.Word.{is_negative, extended, magnitude, with_sign, signs_differ, shift_right_signed, multiply_high, multiply_high_mixed, divide, remainder}
+use Rattle.th_word.specs.Word.{is_negative, extended, magnitude, with_sign, signs_differ, shift_right_signed, multiply_high, multiply_high_mixed, divide}
 
 -- a word below 2 ^ 31 spells itself, and another one the number less by 2 ^ 32
 pub signed-low : (a : ℕ) → a < 2 ^ 31 → to_z w32 a ≡ pos a

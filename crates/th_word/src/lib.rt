@@ -1,6 +1,7 @@
 //! The arithmetic of 32-bit words in RV32IM: what each instruction computes of its operands.
-//! A word is a `u32`; as a signed number it is read in two's complement. Every function takes
-//! every word, runs in constant time and takes no memory.
+//!
+//! A word is a `u32`, and as a signed number it is read in two's complement. No function fails,
+//! loops or takes memory. Each rule is stated in specs/Word.antt, and in words in docs/MACHINE.md.
 #![tactic(auto)]
 
 ghost use Rattle.std.specs.Prelude.{◌≡◌, ◌/◌, ◌^◌, ◌<◌, bit_and, bit_or, bit_xor, nat_lt};
@@ -82,7 +83,11 @@ pub const fn extend_8(field: u32) -> u32
     requires { field < 2 ^ 8 }
     ensures { result ≡ extend_8 field }
 {
-    if field < 0x80 { field } else { field + 0xffff_ff00 }
+    if field < 0x80 {
+        field
+    } else {
+        field + 0xffff_ff00
+    }
 }
 
 /// A field of 12 bits, sign-extended.
@@ -90,7 +95,11 @@ pub const fn extend_12(field: u32) -> u32
     requires { field < 2 ^ 12 }
     ensures { result ≡ extend_12 field }
 {
-    if field < 0x800 { field } else { field + 0xffff_f000 }
+    if field < 0x800 {
+        field
+    } else {
+        field + 0xffff_f000
+    }
 }
 
 /// A field of 13 bits, sign-extended.
@@ -98,7 +107,11 @@ pub const fn extend_13(field: u32) -> u32
     requires { field < 2 ^ 13 }
     ensures { result ≡ extend_13 field }
 {
-    if field < 0x1000 { field } else { field + 0xffff_e000 }
+    if field < 0x1000 {
+        field
+    } else {
+        field + 0xffff_e000
+    }
 }
 
 /// A field of 16 bits, sign-extended.
@@ -106,7 +119,11 @@ pub const fn extend_16(field: u32) -> u32
     requires { field < 2 ^ 16 }
     ensures { result ≡ extend_16 field }
 {
-    if field < 0x8000 { field } else { field + 0xffff_0000 }
+    if field < 0x8000 {
+        field
+    } else {
+        field + 0xffff_0000
+    }
 }
 
 /// A field of 21 bits, sign-extended.
@@ -114,7 +131,11 @@ pub const fn extend_21(field: u32) -> u32
     requires { field < 2 ^ 21 }
     ensures { result ≡ extend_21 field }
 {
-    if field < 0x10_0000 { field } else { field + 0xffe0_0000 }
+    if field < 0x10_0000 {
+        field
+    } else {
+        field + 0xffe0_0000
+    }
 }
 
 /// `a` shifted left by the low five bits of `b`.
@@ -184,7 +205,13 @@ pub const fn multiply_high_unsigned(a: u32, b: u32) -> u32
 pub const fn divide(a: u32, b: u32) -> u32
     ensures { result ≡ divide a b }
 {
-    if b == 0 { u32::MAX } else { a.cast_signed().wrapping_div(b.cast_signed()).cast_unsigned() }
+    if b == 0 {
+        u32::MAX
+    } else {
+        a.cast_signed()
+            .wrapping_div(b.cast_signed())
+            .cast_unsigned()
+    }
 }
 
 /// The quotient of unsigned numbers; all ones by zero.
@@ -198,7 +225,13 @@ pub const fn divide_unsigned(a: u32, b: u32) -> u32
 pub const fn remainder(a: u32, b: u32) -> u32
     ensures { result ≡ remainder a b }
 {
-    if b == 0 { a } else { a.cast_signed().wrapping_rem(b.cast_signed()).cast_unsigned() }
+    if b == 0 {
+        a
+    } else {
+        a.cast_signed()
+            .wrapping_rem(b.cast_signed())
+            .cast_unsigned()
+    }
 }
 
 /// The remainder of unsigned numbers; `a` by zero.
