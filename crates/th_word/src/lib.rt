@@ -8,6 +8,9 @@ ghost use Rattle.std.specs.Prelude.{◌≡◌, ◌/◌, ◌^◌, ◌<◌, bit_an
 ghost use Rattle.std.specs.Int.{w32, w64, cast_signed, cast_unsigned};
 ghost use Rattle.th_word.specs.Word.{word_add, word_sub, is_negative, signed_less, flag_word, extend_8, extend_12, extend_13, extend_16, extend_21, shift_left, shift_right, shift_right_signed, multiply, multiply_high, multiply_high_mixed, multiply_high_unsigned, divide, divide_unsigned, remainder, remainder_unsigned};
 
+// The quotient of a division by zero, with and without a sign: all ones.
+const QUOTIENT_BY_ZERO: u32 = u32::MAX;
+
 /// The sum modulo 2^32.
 pub const fn add(a: u32, b: u32) -> u32
     ensures { result ≡ word_add a b }
@@ -206,11 +209,10 @@ pub const fn divide(a: u32, b: u32) -> u32
     ensures { result ≡ divide a b }
 {
     if b == 0 {
-        u32::MAX
+        QUOTIENT_BY_ZERO
     } else {
-        a.cast_signed()
-            .wrapping_div(b.cast_signed())
-            .cast_unsigned()
+        let quotient = a.cast_signed().wrapping_div(b.cast_signed());
+        quotient.cast_unsigned()
     }
 }
 
@@ -218,7 +220,7 @@ pub const fn divide(a: u32, b: u32) -> u32
 pub const fn divide_unsigned(a: u32, b: u32) -> u32
     ensures { result ≡ divide_unsigned a b }
 {
-    if b == 0 { u32::MAX } else { a / b }
+    if b == 0 { QUOTIENT_BY_ZERO } else { a / b }
 }
 
 /// The remainder of signed numbers, with the sign of `a`; `a` by zero; 0 of -2^31 by -1.
@@ -228,9 +230,8 @@ pub const fn remainder(a: u32, b: u32) -> u32
     if b == 0 {
         a
     } else {
-        a.cast_signed()
-            .wrapping_rem(b.cast_signed())
-            .cast_unsigned()
+        let rest = a.cast_signed().wrapping_rem(b.cast_signed());
+        rest.cast_unsigned()
     }
 }
 
