@@ -1,12 +1,13 @@
 -- The definitions on words, by the signed numbers that the words spell.
-use Rattle.std.proofs.Common.{◌≡◌, ℕ, zero, suc, ◌+◌, ◌-◌, ◌*◌, ◌/◌, ◌%◌, ◌^◌, ◌<◌, ◌≤◌, Bool, true, false, nat_eq, refl, sym, ap, ◌∙◌, subst, arith, rules, unsigned_abs, ℤ, pos, negsuc, ◌*ℤ◌, neg_ℤ, w32, w64, FitsSigned, to_z, of_z, int_div}
+use Rattle.std.proofs.Common.{◌≡◌, ℕ, zero, suc, ◌+◌, ◌-◌, ◌*◌, ◌/◌, ◌%◌, ◌^◌, ◌<◌, ◌≤◌, Bool, true, false, nat_eq, refl, sym, ap, ◌∙◌, subst, arith, rules, unsigned_abs, ℤ, pos, negsuc, ◌+ℤ◌, ◌-ℤ◌, ◌*ℤ◌, neg_ℤ, w32, w64, FitsSigned, to_z, of_z, int_div}
 use Rattle.std.proofs.lemmas.Bool.{lt-ltb, le-ltb, cond-false}
-use Rattle.std.proofs.lemmas.Int.{ints, to_z_pos, to_z-of_z, of_z-to_z, int_wrap_fits, wrapping_mul_is, fits_signed_mul, fits_signed_from_abs}
-use Rattle.std.proofs.lemmas.Nat.{pow_pos, pow-add, div-mul-add, div-add-mod', mod_below, shr_le}
+use Rattle.std.proofs.lemmas.Int.{ints, to_z_pos, to_z-of_z, of_z-to_z, int_wrap_fits, wrapping_mul_is, wrapping_add-bits, wrapping_sub-bits, wrapping_mul-bits, fits_signed_mul, fits_signed_from_abs}
+use Rattle.std.proofs.lemmas.Nat.{pow_pos, pow-add, div-mul-add, div-add-mod', mod_below, shr_le, mul-mod}
 use Rattle.std.proofs.Math.Nat.{div-le_self}
+use Rattle.std.specs.Prelude.{int_lt}
 use Rattle.std.specs.Int.{int_shr, int_wrapping_div}
 use Rattle.th_word.proofs.Words.{magnitude-le, divide-word}
-use Rattle.th_word.specs.Word.{is_negative, extended, magnitude, with_sign, signs_differ, shift_right_signed, multiply_high, multiply_high_mixed, divide}
+use Rattle.th_word.specs.Word.{word_add, word_sub, multiply, signed_less, is_negative, extended, magnitude, with_sign, signs_differ, shift_right_signed, multiply_high, multiply_high_mixed, divide}
 
 -- a word below 2 ^ 31 spells itself, and another one the number less by 2 ^ 32
 pub signed-low : (a : ℕ) → a < 2 ^ 31 → to_z w32 a ≡ pos a
@@ -117,13 +118,17 @@ divide-casts a b r x y z h k nz e f q g =
     at : (m n : ℕ) → m ≡ a → n ≡ b → int_wrapping_div w32 (to_z w32 m) (to_z w32 n) ≡ to_z w32 (of_z w32 (int_div (to_z w32 a) (to_z w32 b)))
     at m n e f = rw (e, f) refl
 
+product-fits : (x y : ℤ) → unsigned_abs x ≤ 2 ^ 31 → unsigned_abs y ≤ 2 ^ 32 - 1 → FitsSigned w64 x × FitsSigned w64 y × FitsSigned w64 (x *ℤ y)
+product-fits x y h k = (fits_signed_from_abs w64 x (omega arith), fits_signed_from_abs w64 y (omega arith), fits_signed_mul w64 x y (2 ^ 31) (2 ^ 32 - 1) h k (omega arith))
+
+product-of : (x y : ℤ) → unsigned_abs x ≤ 2 ^ 31 → unsigned_abs y ≤ 2 ^ 32 - 1 → of_z w64 (x *ℤ y) ≡ of_z w64 x * of_z w64 y % 2 ^ 64
+product-of x y h k = let fits = product-fits x y h k in product-is x y fits.0 fits.1 fits.2
+
 product-casts : (x y : ℤ) → unsigned_abs x ≤ 2 ^ 31 → unsigned_abs y ≤ 2 ^ 32 - 1 → of_z w64 (to_z w64 (of_z w64 (to_z w64 (of_z w64 x) *ℤ to_z w64 (of_z w64 y)))) ≡ of_z w64 x * of_z w64 y % 2 ^ 64
 product-casts x y h k =
-    let fx : FitsSigned w64 x = fits_signed_from_abs w64 x (omega arith) in
-    let fy : FitsSigned w64 y = fits_signed_from_abs w64 y (omega arith) in
-    let fxy : FitsSigned w64 (x *ℤ y) = fits_signed_mul w64 x y (2 ^ 31) (2 ^ 32 - 1) h k (omega arith) in
-    let once : to_z w64 (of_z w64 x) *ℤ to_z w64 (of_z w64 y) ≡ x *ℤ y = rw (to_z-of_z w64 x fx, to_z-of_z w64 y fy) refl in
-    ap (λ z. of_z w64 (to_z w64 (of_z w64 z))) once ∙ ap (of_z w64) (to_z-of_z w64 (x *ℤ y) fxy) ∙ product-is x y fx fy fxy
+    let fits = product-fits x y h k in
+    let once : to_z w64 (of_z w64 x) *ℤ to_z w64 (of_z w64 y) ≡ x *ℤ y = rw (to_z-of_z w64 x fits.0, to_z-of_z w64 y fits.1) refl in
+    ap (λ z. of_z w64 (to_z w64 (of_z w64 z))) once ∙ ap (of_z w64) (to_z-of_z w64 (x *ℤ y) fits.2) ∙ product-of x y h k
 
 pub multiply_high-casts : (a b r : ℕ) (x y : ℤ) → a < 2 ^ 32 → b < 2 ^ 32 → x ≡ to_z w32 a → y ≡ to_z w32 b → r ≡ of_z w64 (to_z w64 (of_z w64 (to_z w64 (of_z w64 x) *ℤ to_z w64 (of_z w64 y)))) / 2 ^ 32 → r ≡ multiply_high a b
 multiply_high-casts a b r x y h k e f g =
@@ -138,3 +143,37 @@ multiply_high_mixed-casts a b r x h k e g =
     let ha : unsigned_abs x ≤ 2 ^ 31 = rw e (small_word a h) in
     let ea : of_z w64 x ≡ extended a = ap (of_z w64) e ∙ sym (extended-is a h) in
     g ∙ ap (λ n. n / 2 ^ 32) (product-casts x (pos b) ha (omega arith)) ∙ halves _ _ _ _ ea refl
+
+-- ---- for callers: the words of sums, differences, products and orders of signed numbers
+
+pub word_add-fits : (a b : ℕ) → a < 2 ^ 32 → b < 2 ^ 32 → FitsSigned w32 (to_z w32 a +ℤ to_z w32 b) → to_z w32 (word_add a b) ≡ to_z w32 a +ℤ to_z w32 b
+word_add-fits a b h k f = wrapping_add-bits w32 a b h k ∙ int_wrap_fits w32 _ f
+
+pub word_sub-fits : (a b : ℕ) → a < 2 ^ 32 → b < 2 ^ 32 → FitsSigned w32 (to_z w32 a -ℤ to_z w32 b) → to_z w32 (word_sub a b) ≡ to_z w32 a -ℤ to_z w32 b
+word_sub-fits a b h k f = wrapping_sub-bits w32 a b h k ∙ int_wrap_fits w32 _ f
+
+pub multiply-fits : (a b : ℕ) → a < 2 ^ 32 → b < 2 ^ 32 → FitsSigned w32 (to_z w32 a *ℤ to_z w32 b) → to_z w32 (multiply a b) ≡ to_z w32 a *ℤ to_z w32 b
+multiply-fits a b h k f = wrapping_mul-bits w32 a b h k ∙ int_wrap_fits w32 _ f
+
+pub signed_less-is : (a b : ℕ) → a < 2 ^ 32 → b < 2 ^ 32 → signed_less a b ≡ int_lt (to_z w32 a) (to_z w32 b)
+signed_less-is a b h k = grind (arith, ints)
+
+-- the upper and the lower half of a product of signed numbers in 64 bits
+pub multiply_high-is : (a b : ℕ) → a < 2 ^ 32 → b < 2 ^ 32 → multiply_high a b ≡ of_z w64 (to_z w32 a *ℤ to_z w32 b) / 2 ^ 32
+multiply_high-is a b h k = sym (ap (λ n. n / 2 ^ 32) (product-of (to_z w32 a) (to_z w32 b) (small_word a h) (omega (arith, small_word b k))) ∙ halves _ _ _ _ (sym (extended-is a h)) (sym (extended-is b k)))
+
+pub multiply-is : (a b : ℕ) → a < 2 ^ 32 → b < 2 ^ 32 → multiply a b ≡ of_z w64 (to_z w32 a *ℤ to_z w32 b) % 2 ^ 32
+multiply-is a b h k =
+    sym (ap (λ n. n % 2 ^ 32) (product-of (to_z w32 a) (to_z w32 b) (small_word a h) (omega (arith, small_word b k)) ∙ ap (λ n. n % 2 ^ 64) (ap (λ n. n * of_z w64 (to_z w32 b)) (sym (extended-is a h)) ∙ ap (λ n. extended a * n) (sym (extended-is b k)))) ∙ low a b)
+  where
+    of_double : (n : ℕ) → n % 2 ^ 64 % 2 ^ 32 ≡ n % 2 ^ 32
+    of_double n = omega arith
+
+    low_word : (m : ℕ) → extended m % 2 ^ 32 ≡ m % 2 ^ 32
+    low_word m = grind arith
+
+    same : (m n m' n' : ℕ) → m ≡ m' → n ≡ n' → m * n % 2 ^ 32 ≡ m' * n' % 2 ^ 32
+    same m n m' n' e f = rw (e, f) refl
+
+    low : (m n : ℕ) → extended m * extended n % 2 ^ 64 % 2 ^ 32 ≡ m * n % 2 ^ 32
+    low m n = of_double (extended m * extended n) ∙ mul-mod (extended m) (extended n) (2 ^ 32) ∙ same _ _ _ _ (low_word m) (low_word n) ∙ sym (mul-mod m n (2 ^ 32))
