@@ -6,6 +6,7 @@ use Rattle.th_rv.specs.declared.instr.Instr.TheVariants.{Lui, Auipc, Jal, Jalr, 
 use Rattle.th_rv.specs.declared.instr.Cause.{Cause}
 use Rattle.th_rv.specs.declared.instr.Cause.TheVariants as cause
 use Rattle.th_rv.specs.Memory.{Area, number_at, put_number, bytes_at}
+use Rattle.th_rv.specs.Table.{decode}
 
 -- the program counter, the 32 registers and the memory
 pub record State : Type 0 where
@@ -167,3 +168,15 @@ execute (Remu rd rs1 rs2) s = operate remainder_unsigned s rd rs1 rs2
 execute (Fence rd rs1 bits) s = Next (with_reg s 0 0)
 execute Ecall s = environment_call (reg s.regs 17) s
 execute Ebreak s = Traps cause.Ebreak
+
+abbrev pub execute_found : Option Instr → State → Act
+execute_found None s = Traps cause.Illegal
+execute_found (Some instr) s = execute instr s
+
+abbrev pub execute_word : Option ℕ → State → Act
+execute_word None s = Traps cause.Fetch
+execute_word (Some word) s = execute_found (decode word) s
+
+-- what the instruction at the program counter does; it is fetched from a multiple of 4
+unfoldable pub step : State → Act
+step s = cond (nat_eq (s.pc % 4) 0) (execute_word (number_at 4 1 s.areas s.pc) s) (Traps cause.Fetch)
