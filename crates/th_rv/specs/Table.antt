@@ -265,6 +265,25 @@ of_fields opcode rd funct3 rs1 rs2 funct7 =
     cond (nat_eq opcode 0x0f) (cond (nat_eq funct3 0) (Some (Fence rd rs1 (i_imm rs2 funct7))) None) (
     cond (nat_eq opcode 0x73) (system_of (pack opcode rd funct3 rs1 rs2 funct7)) None))))))))))
 
+-- the fields of a word: bits 6 to 0, 11 to 7, 14 to 12, 19 to 15, 24 to 20, 31 to 25
+abbrev pub opcode_of : ℕ → ℕ
+opcode_of word = word % 128
+
+abbrev pub rd_of : ℕ → ℕ
+rd_of word = word / 128 % 32
+
+abbrev pub funct3_of : ℕ → ℕ
+funct3_of word = word / 4096 % 8
+
+abbrev pub rs1_of : ℕ → ℕ
+rs1_of word = word / 32768 % 32
+
+abbrev pub rs2_of : ℕ → ℕ
+rs2_of word = word / 1048576 % 32
+
+abbrev pub funct7_of : ℕ → ℕ
+funct7_of word = word / 33554432
+
 -- the instruction that a word spells, if any
 abbrev pub decode : ℕ → Option Instr
-decode word = of_fields (word % 128) (word / 128 % 32) (word / 4096 % 8) (word / 32768 % 32) (word / 1048576 % 32) (word / 33554432)
+decode word = of_fields (opcode_of word) (rd_of word) (funct3_of word) (rs1_of word) (rs2_of word) (funct7_of word)
