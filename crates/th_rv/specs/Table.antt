@@ -7,10 +7,11 @@ use Rattle.th_rv.specs.declared.instr.Instr.TheVariants.{Lui, Auipc, Jal, Jalr, 
 abbrev pub IsRegister : ℕ → Type 0
 IsRegister r = r < 32
 
--- an offset in 13 bits and in 21 bits, a multiple of 2
+-- the offset of a branch: 13 bits, a multiple of 2
 abbrev pub IsBranchOffset : ℕ → Type 0
 IsBranchOffset imm = (imm < 8192) × (imm % 2 ≡ 0)
 
+-- the offset of a JAL: 21 bits, a multiple of 2
 abbrev pub IsJumpOffset : ℕ → Type 0
 IsJumpOffset imm = (imm < 2097152) × (imm % 2 ≡ 0)
 
@@ -146,23 +147,27 @@ encode (Fence rd rs1 bits) = i_word 0x0f 0 rd rs1 bits
 encode Ecall = 0x00000073
 encode Ebreak = 0x00100073
 
--- the immediates of the formats I, S, B, U and J, by the fields of a word
+-- the immediate of format I, by the fields of its word
 abbrev pub i_imm : (rs2 funct7 : ℕ) → ℕ
 i_imm rs2 funct7 = rs2 + 32 * funct7
 
+-- the immediate of format S
 abbrev pub s_imm : (rd funct7 : ℕ) → ℕ
 s_imm rd funct7 = rd + 32 * funct7
 
+-- the offset of format B
 abbrev pub b_imm : (rd funct7 : ℕ) → ℕ
 b_imm rd funct7 = rd / 2 * 2 + funct7 % 64 * 32 + rd % 2 * 2048 + funct7 / 64 * 4096
 
+-- the immediate of format U
 abbrev pub u_imm : (funct3 rs1 rs2 funct7 : ℕ) → ℕ
 u_imm funct3 rs1 rs2 funct7 = funct3 + 8 * rs1 + 256 * rs2 + 8192 * funct7
 
+-- the offset of format J, by the upper 20 bits of its word
 abbrev pub j_imm : ℕ → ℕ
 j_imm field = field / 512 % 1024 * 2 + field / 256 % 2 * 2048 + field % 256 * 4096 + field / 524288 * 1048576
 
--- the branches
+-- the branches, by funct3
 unfoldable pub branch_of : (funct3 rs1 rs2 imm : ℕ) → Option Instr
 branch_of funct3 rs1 rs2 imm =
     cond (nat_eq funct3 0) (Some (Beq rs1 rs2 imm)) (
@@ -172,7 +177,7 @@ branch_of funct3 rs1 rs2 imm =
     cond (nat_eq funct3 6) (Some (Bltu rs1 rs2 imm)) (
     cond (nat_eq funct3 7) (Some (Bgeu rs1 rs2 imm)) None)))))
 
--- the loads
+-- the loads, by funct3
 unfoldable pub load_of : (funct3 rd rs1 imm : ℕ) → Option Instr
 load_of funct3 rd rs1 imm =
     cond (nat_eq funct3 0) (Some (Lb rd rs1 imm)) (
@@ -181,7 +186,7 @@ load_of funct3 rd rs1 imm =
     cond (nat_eq funct3 4) (Some (Lbu rd rs1 imm)) (
     cond (nat_eq funct3 5) (Some (Lhu rd rs1 imm)) None))))
 
--- the stores
+-- the stores, by funct3
 unfoldable pub store_of : (funct3 rs1 rs2 imm : ℕ) → Option Instr
 store_of funct3 rs1 rs2 imm =
     cond (nat_eq funct3 0) (Some (Sb rs1 rs2 imm)) (
@@ -192,11 +197,11 @@ store_of funct3 rs1 rs2 imm =
 unfoldable pub shift_of : (funct3 funct7 rd rs1 amount : ℕ) → Option Instr
 shift_of funct3 funct7 rd rs1 amount =
     cond (nat_eq funct7 0) (
-      cond (nat_eq funct3 1) (Some (Slli rd rs1 amount)) (
-      cond (nat_eq funct3 5) (Some (Srli rd rs1 amount)) None)) (
+    cond (nat_eq funct3 1) (Some (Slli rd rs1 amount)) (
+    cond (nat_eq funct3 5) (Some (Srli rd rs1 amount)) None)) (
     cond (nat_eq funct7 0x20) (cond (nat_eq funct3 5) (Some (Srai rd rs1 amount)) None) None)
 
--- the operations on a register and an immediate
+-- the operations on a register and an immediate, by funct3
 unfoldable pub immediate_of : (funct3 rd rs1 rs2 funct7 : ℕ) → Option Instr
 immediate_of funct3 rd rs1 rs2 funct7 =
     cond (nat_eq funct3 0) (Some (Addi rd rs1 (i_imm rs2 funct7))) (
@@ -207,7 +212,7 @@ immediate_of funct3 rd rs1 rs2 funct7 =
     cond (nat_eq funct3 7) (Some (Andi rd rs1 (i_imm rs2 funct7))) (
     shift_of funct3 funct7 rd rs1 rs2))))))
 
--- the operations on two registers with funct7 0
+-- the operations on two registers with funct7 0, by funct3
 unfoldable pub base_of : (funct3 rd rs1 rs2 : ℕ) → Option Instr
 base_of funct3 rd rs1 rs2 =
     cond (nat_eq funct3 0) (Some (Add rd rs1 rs2)) (
@@ -219,13 +224,13 @@ base_of funct3 rd rs1 rs2 =
     cond (nat_eq funct3 6) (Some (Or rd rs1 rs2)) (
     cond (nat_eq funct3 7) (Some (And rd rs1 rs2)) None)))))))
 
--- those with funct7 0x20
+-- the operations on two registers with funct7 0x20, by funct3
 unfoldable pub other_of : (funct3 rd rs1 rs2 : ℕ) → Option Instr
 other_of funct3 rd rs1 rs2 =
     cond (nat_eq funct3 0) (Some (Sub rd rs1 rs2)) (
     cond (nat_eq funct3 5) (Some (Sra rd rs1 rs2)) None)
 
--- those with funct7 1: the M extension
+-- the operations on two registers with funct7 1, which are the M extension, by funct3
 unfoldable pub product_of : (funct3 rd rs1 rs2 : ℕ) → Option Instr
 product_of funct3 rd rs1 rs2 =
     cond (nat_eq funct3 0) (Some (Mul rd rs1 rs2)) (
@@ -265,22 +270,27 @@ of_fields opcode rd funct3 rs1 rs2 funct7 =
     cond (nat_eq opcode 0x0f) (cond (nat_eq funct3 0) (Some (Fence rd rs1 (i_imm rs2 funct7))) None) (
     cond (nat_eq opcode 0x73) (system_of (pack opcode rd funct3 rs1 rs2 funct7)) None))))))))))
 
--- the fields of a word: bits 6 to 0, 11 to 7, 14 to 12, 19 to 15, 24 to 20, 31 to 25
+-- a word's major opcode: bits 6 to 0
 abbrev pub opcode_of : ℕ → ℕ
 opcode_of word = word % 128
 
+-- its field rd: bits 11 to 7
 abbrev pub rd_of : ℕ → ℕ
 rd_of word = word / 128 % 32
 
+-- its field funct3: bits 14 to 12
 abbrev pub funct3_of : ℕ → ℕ
 funct3_of word = word / 4096 % 8
 
+-- its field rs1: bits 19 to 15
 abbrev pub rs1_of : ℕ → ℕ
 rs1_of word = word / 32768 % 32
 
+-- its field rs2: bits 24 to 20
 abbrev pub rs2_of : ℕ → ℕ
 rs2_of word = word / 1048576 % 32
 
+-- its field funct7: bits 31 to 25
 abbrev pub funct7_of : ℕ → ℕ
 funct7_of word = word / 33554432
 

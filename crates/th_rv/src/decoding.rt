@@ -2,8 +2,30 @@
 
 ghost use Rattle.std.specs.Prelude.{◌≡◌, ◌≢◌, IfSome, IfNone};
 ghost use Rattle.th_rv.specs.Table.{
-    Valid, encode, decode, opcode_of, rd_of, funct3_of, rs1_of, rs2_of, funct7_of, i_imm, s_imm, b_imm, u_imm, j_imm,
-    branch_of, load_of, store_of, immediate_of, shift_of, register_of, base_of, other_of, product_of, system_of,
+  Valid,
+  encode,
+  decode,
+  opcode_of,
+  rd_of,
+  funct3_of,
+  rs1_of,
+  rs2_of,
+  funct7_of,
+  i_imm,
+  s_imm,
+  b_imm,
+  u_imm,
+  j_imm,
+  branch_of,
+  load_of,
+  store_of,
+  immediate_of,
+  shift_of,
+  register_of,
+  base_of,
+  other_of,
+  product_of,
+  system_of,
 };
 
 use crate::Instr;
@@ -241,23 +263,40 @@ fn spelled(word: u32) -> Option<Instr>
 {
     let (rd, rs1, rs2, funct3) = (rd(word), rs1(word), rs2(word), funct3(word));
     match opcode(word) {
-        0x37 => Some(Instr::Lui { rd, imm: u_immediate(word) }),
-        0x17 => Some(Instr::Auipc { rd, imm: u_immediate(word) }),
-        0x6f => Some(Instr::Jal { rd, imm: j_immediate(word) }),
-        0x67 if funct3 == 0 => Some(Instr::Jalr { rd, rs1, imm: i_immediate(word) }),
+        0x37 => Some(Instr::Lui {
+            rd,
+            imm: u_immediate(word),
+        }),
+        0x17 => Some(Instr::Auipc {
+            rd,
+            imm: u_immediate(word),
+        }),
+        0x6f => Some(Instr::Jal {
+            rd,
+            imm: j_immediate(word),
+        }),
+        0x67 if funct3 == 0 => Some(Instr::Jalr {
+            rd,
+            rs1,
+            imm: i_immediate(word),
+        }),
         0x63 => branch(funct3, rs1, rs2, b_immediate(word)),
         0x03 => load(funct3, rd, rs1, i_immediate(word)),
         0x23 => store(funct3, rs1, rs2, s_immediate(word)),
         0x13 => immediate(word),
         0x33 => register(funct3, funct7(word), rd, rs1, rs2),
-        0x0f if funct3 == 0 => Some(Instr::Fence { rd, rs1, bits: i_immediate(word) }),
+        0x0f if funct3 == 0 => Some(Instr::Fence {
+            rd,
+            rs1,
+            bits: i_immediate(word),
+        }),
         0x73 => system(word),
         _ => None,
     }
 }
 
-/// The instruction that a word spells; `None` exactly where it is no word of RV32IM.
-//TODO
+/// The instruction that a word spells; `None` exactly where it is no word of RV32IM. It takes no
+/// memory and constant time. docs/MACHINE.md has the table of words.
 pub fn decode(word: u32) -> Option<Instr>
     ensures table { result ≡ decode word }
     ensures valid { IfSome result (λ instr. Valid instr) }

@@ -2,7 +2,17 @@
 
 ghost use Rattle.std.specs.Prelude.{◌≡◌, ◌<◌, Some};
 ghost use Rattle.th_rv.specs.Table.{
-    Valid, IsRegister, encode, decode, pack, r_word, i_word, s_word, b_word, u_word, j_field,
+  Valid,
+  IsRegister,
+  encode,
+  decode,
+  pack,
+  r_word,
+  i_word,
+  s_word,
+  b_word,
+  u_word,
+  j_field,
 };
 
 use crate::Instr;
@@ -87,7 +97,8 @@ fn register_word(funct3: u32, funct7: u32, rd: u32, rs1: u32, rs2: u32) -> u32
     joined(funct7, rs2, rs1, funct3, rd, 0x33)
 }
 
-/// The word that spells an instruction, whose fields must be in the ranges of its format.
+/// The word that spells an instruction, whose fields must be in the ranges of its format, as `Instr`
+/// says them. It takes no memory and constant time. docs/MACHINE.md has the table of words.
 #[tactic(auto, using(crate::proofs::EncodeLemmas::decode_encode))]
 pub fn encode(instr: Instr) -> u32
     requires { Valid instr }
