@@ -1,5 +1,5 @@
 -- Memory: bytes at addresses, in areas that say what may be done with them.
-use Rattle.std.specs.Prelude.{ℕ, zero, suc, ◌+◌, ◌-◌, ◌*◌, ◌/◌, ◌%◌, List, [], ◌∷◌, length, Option, Some, None, Bool, true, false, nat_lt, nat_le, nat_eq, cond, slice_get, slice_set}
+use Rattle.std.specs.Prelude.{ℕ, zero, suc, ◌+◌, ◌-◌, ◌*◌, ◌/◌, ◌%◌, List, [], ◌∷◌, length, Option, Some, None, Bool, false, nat_lt, nat_le, nat_eq, cond, slice_get, slice_set}
 
 -- a run of bytes from an address on; flags are a sum of 1 (fetched from), 2 (stored to), 4 (loaded from)
 pub record Area : Type 0 where

@@ -1,11 +1,12 @@
 -- What one instruction does to registers, program counter and memory.
-use Rattle.std.specs.Prelude.{ℕ, zero, suc, ◌+◌, ◌-◌, ◌*◌, ◌/◌, ◌%◌, List, [], ◌∷◌, Option, Some, None, Bool, true, false, nat_lt, nat_le, nat_eq, cond, slice_set, slice_index, bit_and, bit_or, bit_xor}
+use Rattle.std.specs.Prelude.{ℕ, zero, suc, ◌*◌, ◌/◌, ◌%◌, List, Option, Some, None, Bool, true, false, nat_lt, nat_le, nat_eq, cond, slice_set, slice_index, bit_and, bit_or, bit_xor}
 use Rattle.th_word.specs.Word.{word_add, word_sub, signed_less, flag_word, extend_8, extend_12, extend_13, extend_16, extend_21, shift_left, shift_right, shift_right_signed, multiply, multiply_high, multiply_high_mixed, multiply_high_unsigned, divide, divide_unsigned, remainder, remainder_unsigned}
 use Rattle.th_rv.specs.declared.instr.Instr.{Instr}
 use Rattle.th_rv.specs.declared.instr.Instr.TheVariants.{Lui, Auipc, Jal, Jalr, Beq, Bne, Blt, Bge, Bltu, Bgeu, Lb, Lh, Lw, Lbu, Lhu, Sb, Sh, Sw, Addi, Slti, Sltiu, Xori, Ori, Andi, Slli, Srli, Srai, Add, Sub, Sll, Slt, Sltu, Xor, Srl, Sra, Or, And, Mul, Mulh, Mulhsu, Mulhu, Div, Divu, Rem, Remu, Fence, Ecall, Ebreak}
 use Rattle.th_rv.specs.declared.instr.Cause.{Cause}
 use Rattle.th_rv.specs.declared.instr.Cause.TheVariants as cause
 use Rattle.th_rv.specs.Memory.{Area, number_at, put_number, bytes_at}
+use Rattle.th_rv.specs.Table.{decode}
 
 -- the program counter, the 32 registers and the memory
 pub record State : Type 0 where
@@ -63,6 +64,7 @@ branch test s imm = cond test (jump (word_add s.pc (extend_13 imm)) s 0 0) (Next
 abbrev pub address : State → ℕ → ℕ → ℕ
 address s rs1 imm = word_add (reg s.regs rs1) (extend_12 imm)
 
+-- what a load does with the number that it found, or with none
 abbrev pub into_reg : Option ℕ → (ℕ → ℕ) → State → ℕ → Act
 into_reg None extend s rd = Traps cause.Load
 into_reg (Some v) extend s rd = Next (with_reg s rd (extend v))
@@ -71,6 +73,7 @@ into_reg (Some v) extend s rd = Next (with_reg s rd (extend v))
 abbrev pub load : ℕ → (ℕ → ℕ) → State → ℕ → ℕ → Act
 load n extend s rd a = cond (nat_eq (a % n) 0) (into_reg (number_at n 4 s.areas a) extend s rd) (Traps cause.Misaligned)
 
+-- what a store does where its bytes are stored to, or not
 abbrev pub into_memory : Option ℕ → ℕ → State → ℕ → ℕ → Act
 into_memory None n s a v = Traps cause.Store
 into_memory (Some old) n s a v = Next (with_number n s a v)
@@ -79,26 +82,32 @@ into_memory (Some old) n s a v = Next (with_number n s a v)
 abbrev pub store : ℕ → State → ℕ → ℕ → Act
 store n s a v = cond (nat_eq (a % n) 0) (into_memory (number_at n 2 s.areas a) n s a v) (Traps cause.Misaligned)
 
--- an operation on registers, and one on a register and a word
+-- an operation on two registers, into a register
 abbrev pub operate : (ℕ → ℕ → ℕ) → State → ℕ → ℕ → ℕ → Act
 operate f s rd rs1 rs2 = Next (with_reg s rd (f (reg s.regs rs1) (reg s.regs rs2)))
 
+-- an operation on a register and a word, into a register
 abbrev pub operate_with : (ℕ → ℕ → ℕ) → State → ℕ → ℕ → ℕ → Act
 operate_with f s rd rs1 v = Next (with_reg s rd (f (reg s.regs rs1) v))
 
+-- a number as it is
 abbrev pub whole : ℕ → ℕ
 whole v = v
 
+-- 1 where a is less than b as signed numbers, else 0
 abbrev pub less_word : ℕ → ℕ → ℕ
 less_word a b = flag_word (signed_less a b)
 
+-- 1 where a is less than b as unsigned numbers, else 0
 abbrev pub less_word_unsigned : ℕ → ℕ → ℕ
 less_word_unsigned a b = flag_word (nat_lt a b)
 
+-- the other truth value
 abbrev pub negated : Bool → Bool
 negated true = false
 negated false = true
 
+-- an end by an exception where its name could be loaded, or not
 abbrev pub raise_named : Option (List ℕ) → State → Act
 raise_named None s = Traps cause.Ecall
 raise_named (Some name) s = Halts (Raised (reg s.regs 10) (reg s.regs 11)) (with_reg s 0 0)
@@ -167,3 +176,17 @@ execute (Remu rd rs1 rs2) s = operate remainder_unsigned s rd rs1 rs2
 execute (Fence rd rs1 bits) s = Next (with_reg s 0 0)
 execute Ecall s = environment_call (reg s.regs 17) s
 execute Ebreak s = Traps cause.Ebreak
+
+-- what the instruction does that a word spells, if any
+abbrev pub execute_found : Option Instr → State → Act
+execute_found None s = Traps cause.Illegal
+execute_found (Some instr) s = execute instr s
+
+-- what the word does that was fetched, if any
+abbrev pub execute_word : Option ℕ → State → Act
+execute_word None s = Traps cause.Fetch
+execute_word (Some word) s = execute_found (decode word) s
+
+-- what the instruction at the program counter does; it is fetched from a multiple of 4
+unfoldable pub step : State → Act
+step s = cond (nat_eq (s.pc % 4) 0) (execute_word (number_at 4 1 s.areas s.pc) s) (Traps cause.Fetch)

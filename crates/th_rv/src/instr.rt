@@ -1,6 +1,6 @@
 //! The instructions of RV32I with the M extension, and the causes of traps.
 
-/// An instruction with its fields.
+/// An instruction with its fields. docs/MACHINE.md states what each does.
 ///
 /// `rd`, `rs1` and `rs2` are numbers of registers, below 32. An immediate is the field as its format
 /// spells it, without its sign taken out: 12 bits in loads, stores, JALR and the operations with an
@@ -59,7 +59,8 @@ pub enum Instr {
     Ebreak,
 }
 
-/// Why an instruction traps. A trap changes nothing and isn't retired.
+/// Why an instruction traps. A trap changes nothing and isn't retired. docs/MACHINE.md states when
+/// each cause comes.
 #[derive(Clone, Copy, PartialEq, Eq, Debug)]
 pub enum Cause {
     /// The program counter isn't a multiple of 4, or its word can't be fetched.
