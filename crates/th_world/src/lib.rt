@@ -8,6 +8,13 @@ ghost use Rattle.std.specs.String.{string_bytes};
 ghost use Rattle.th_world.specs.Outside.{Rose, first_byte, without_first, with_file};
 ghost use Rattle.th_world.specs.Refusal.{OnAbsent, OnTooLarge, OnFailed, OnMemory};
 
+mod calls;
+mod mem_files;
+mod memory;
+
+pub use mem_files::MemFiles;
+pub use memory::{MemSink, MemSource};
+
 use std::alloc::Global;
 use thiserror::Error;
 
