@@ -1,6 +1,6 @@
 -- The last file of a name: after a write, in two lists, in a list of entries.
 use Rattle.std.proofs.Common.{◌≡◌, ℕ, Bool, true, false, cond, List, [], ◌∷◌, ◌++◌, Option, None, Some, map, reverse, option_map, refl, sym, ap, append_assoc, ◌∙◌}
-use Rattle.std.specs.Prelude.{find, String, Vec, if◌then◌else◌}
+use Rattle.std.specs.Prelude.{find, String, Vec}
 use Rattle.std.specs.Option.{option_or}
 use Rattle.std.specs.Str.{bytes_eq}
 use Rattle.std.specs.String.{string_bytes}

@@ -1,5 +1,5 @@
 -- For callers of a source and of files: a call's clauses in the forms that a run uses.
-use Rattle.std.proofs.Common.{◌≡◌, ◌≢◌, ℕ, Bool, true, false, List, [], ◌∷◌, ◌++◌, Option, None, Some, option_map, IfSome, MatchBool, refl, sym, ap, cond}
+use Rattle.std.proofs.Common.{◌≡◌, ◌≢◌, ℕ, true, false, List, [], ◌∷◌, Option, None, Some, option_map, IfSome, MatchBool, refl, cond}
 use Rattle.std.specs.Str.{bytes_eq}
 use Rattle.std.specs.Cmp.Lexicographic.{told_text}
 use Rattle.th_world.specs.Outside.{first_byte, without_first, with_file}

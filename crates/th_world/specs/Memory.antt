@@ -1,5 +1,5 @@
 -- What a source, a sink and files in memory are.
-use Rattle.std.specs.Prelude.{◌≡◌, ℕ, List, [], ◌∷◌, ◌++◌, Option, None, Some, map, reverse, find}
+use Rattle.std.specs.Prelude.{ℕ, List, ◌++◌, Option, map, reverse, find}
 use Rattle.std.specs.Option.{option_map}
 use Rattle.std.specs.Str.{bytes_eq}
 use Rattle.std.specs.Prelude.{String, Vec}

@@ -39,10 +39,7 @@ impl Model for MemFiles {
 fn last_entry<'a>(entries: &'a [(String, Vec<u8>)], name: &str) -> Option<&'a (String, Vec<u8>)>
     ensures { option_copied result ≡ find (λ e. bytes_eq (string_bytes e.0) name.now) (reverse entries.now) }
 {
-    entries
-        .iter()
-        .rev()
-        .find(|entry| entry.0.as_str() == name)
+    entries.iter().rev().find(|entry| entry.0.as_str() == name)
 }
 
 /// The bytes of the last entry of this name.
@@ -61,7 +58,12 @@ impl MemFiles {
     /// is `Failed`, and so is a write after `spare` successful writes. A
     /// call's number stays at the greatest `u64` once there, and a call of
     /// that number is no fault by `fail`.
-    pub fn new(alloc: Global, contents: Vec<(String, Vec<u8>)>, spare: u32, fail: Vec<u64>) -> Result<MemFiles, AllocError>
+    pub fn new(
+        alloc: Global,
+        contents: Vec<(String, Vec<u8>)>,
+        spare: u32,
+        fail: Vec<u64>,
+    ) -> Result<MemFiles, AllocError>
         ensures start { IfOk result (λ files. files.start ≡ files_of contents.items) }
         ensures writes { IfOk result (λ files. files.writes ≡ []) }
         ensures spare { IfOk result (λ files. files.spare ≡ spare) }

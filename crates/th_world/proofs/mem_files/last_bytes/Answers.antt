@@ -1,4 +1,4 @@
-use Rattle.std.proofs.Common.{◌≡◌, ℕ, List, option_map, ap}
+use Rattle.std.proofs.Common.{ℕ, List, option_map, ap}
 use Rattle.std.specs.Prelude.{String, Vec}
 use Rattle.std.specs.declared.alloc.Global.{Global}
 use Rattle.th_world.proofs.FileLemmas.{last_of-files_of}

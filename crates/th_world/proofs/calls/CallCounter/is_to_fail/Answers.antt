@@ -1,4 +1,3 @@
-use Rattle.std.proofs.Common.{◌≡◌, ℕ, ◌<◌}
 use Rattle.th_world.proofs.CallsLemmas.{searched_Contains}
 use Rattle.th_world.proofs.calls.CallCounter.is_to_fail.Goals as goal
 

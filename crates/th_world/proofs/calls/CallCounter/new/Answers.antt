@@ -1,4 +1,4 @@
-use Rattle.std.proofs.Common.{◌≡◌, ℕ, Contains, refl}
+use Rattle.std.proofs.Common.{refl}
 use Rattle.std.proofs.lemmas.List.Sorted.{IsNonDecreasingBy-from_sort, Contains-permutation, IsPermutation-sym}
 use Rattle.th_world.proofs.calls.CallCounter.new.Goals as goal
 
@@ -9,5 +9,5 @@ pub returns : goal.returns
 returns c = record {
   number = refl;
   faults = refl;
-  same = λ n. (Contains-permutation _ _ n c.sort_unstable.ensures.permutation, Contains-permutation _ _ n (IsPermutation-sym _ _ c.sort_unstable.ensures.permutation))
+  same = λ n. (Contains-permutation _ _ n c.sort_unstable.ensures.permutation, Contains-permutation _ _ n (IsPermutation-sym _ _ c.sort_unstable.ensures.permutation));
 }

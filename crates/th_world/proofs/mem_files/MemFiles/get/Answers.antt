@@ -1,5 +1,5 @@
-use Rattle.std.proofs.Common.{◌≡◌, ℕ, ◌∙◌}
-use Rattle.th_world.specs.Memory.{files_of, last_of}
+use Rattle.std.proofs.Common.{◌∙◌}
+use Rattle.th_world.specs.Memory.{files_of}
 use Rattle.th_world.proofs.FileLemmas.{last_of-written, last_of-unwritten}
 use Rattle.th_world.proofs.mem_files.MemFiles.get.Goals as goal
 
