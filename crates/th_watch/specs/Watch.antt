@@ -1,0 +1,29 @@
+-- What a watcher of retired instructions means.
+use Rattle.std.specs.Prelude.{ℕ, zero, suc, ◌+◌, ◌-◌, ◌^◌, Bool, ◌&&◌, nat_le, nat_lt, min, List, length, filter, Option, None, slice_get}
+use Rattle.std.specs.Option.{option_or}
+
+-- the span of a watcher, the count of hits since it was aimed, and the last hit
+pub record Watch : Type 0 where
+  pub low : ℕ
+  pub high : ℕ
+  pub count : ℕ
+  pub last : Option ℕ
+
+-- a watcher just aimed at a span
+abbrev pub aimed : ℕ → ℕ → Watch
+aimed low high = record { low = low; high = high; count = 0; last = None }
+
+-- the hits among pcs: those from low up to high, high not among them
+abbrev pub hits : ℕ → ℕ → List ℕ → List ℕ
+hits low high pcs = filter (λ pc. nat_le low pc && nat_lt pc high) pcs
+
+-- a count with n more, which stays at the greatest 64-bit number
+abbrev pub more : ℕ → ℕ → ℕ
+more count zero = count
+more count (suc n) = min (count + suc n) (2 ^ 64 - 1)
+
+-- the watcher after the instructions at these pcs retired, the newest first
+abbrev pub after : Watch → List ℕ → Watch
+after w pcs =
+    let new = hits w.low w.high pcs in
+    record { low = w.low; high = w.high; count = more w.count (length new); last = option_or (slice_get new 0) w.last }
