@@ -33,20 +33,7 @@ mapped-all see f old new i n is past same count =
     let whole : take n new ≡ new = take_all n new (omega arith) in
     rw (rest, append-nil, whole) (is ∙ mapped_past f (map see old) i (rw length-map past))
 
--- the one that was taken out, as it is seen
-pub seen_at : {X Y Z : Type 0} (see : X → Y) (tell : Y → Z) (xs : List X) (k : ℕ) (x : X) (z : Z) → x ≡ get_or xs k x → k < length xs → z ≡ tell (see x) → Some z ≡ option_map tell (slice_get (map see xs) k)
-seen_at see tell xs k x z read below is =
-    rw (slice_get-map, slice_get_read xs (length xs) k x refl below read) (ap Some is)
-
 -- the others, as they are seen
 pub seen_rest : {X Y : Type 0} (see : X → Y) (xs : List X) (k : ℕ) → map see (remove xs k) ≡ remove (map see xs) k
 seen_rest see xs k =
     map-append see (take k xs) (drop (suc k) xs) ∙ ap (λ l. l ++ map see (drop (suc k) xs)) (sym (take-map see k xs)) ∙ ap (λ l. take k (map see xs) ++ l) (sym (drop-map see (suc k) xs))
-
--- there is none to take out
-pub none_at : {X Y Z : Type 0} (see : X → Y) (tell : Y → Z) (xs : List X) (k : ℕ) → length xs ≤ k → None ≡ option_map tell (slice_get (map see xs) k)
-none_at see tell xs k past = rw (slice_get_past (map see xs) k (rw length-map past)) refl
-
--- the others are all
-pub all_rest : {X : Type 0} (xs : List X) (k : ℕ) → length xs ≤ k → xs ≡ remove xs k
-all_rest xs k past = rw (take_all k xs past, drop_all (suc k) xs (omega arith)) (sym (append-nil xs))

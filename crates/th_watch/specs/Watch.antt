@@ -1,5 +1,5 @@
 -- What a watcher of retired instructions means.
-use Rattle.std.specs.Prelude.{ℕ, zero, suc, ◌+◌, ◌-◌, ◌^◌, Bool, ◌&&◌, nat_le, nat_lt, min, List, length, filter, Option, None, slice_get}
+use Rattle.std.specs.Prelude.{ℕ, zero, suc, ◌+◌, ◌-◌, ◌^◌, Bool, ◌&&◌, nat_le, nat_lt, min, List, length, filter, Option, None, slice_get, take, ◌++◌}
 use Rattle.std.specs.Option.{option_or}
 
 -- the span of a watcher, the count of hits since it was aimed, and the last hit
@@ -17,13 +17,22 @@ aimed low high = record { low = low; high = high; count = 0; last = None }
 abbrev pub hits : ℕ → ℕ → List ℕ → List ℕ
 hits low high pcs = filter (λ pc. nat_le low pc && nat_lt pc high) pcs
 
--- a count with n more, which stays at the greatest 64-bit number
-abbrev pub more : ℕ → ℕ → ℕ
-more count zero = count
-more count (suc n) = min (count + suc n) (2 ^ 64 - 1)
+-- a count after n more hits; it stays at the greatest 64-bit number once there
+abbrev pub count_after : ℕ → ℕ → ℕ
+count_after count zero = count
+count_after count (suc n) = min (count + suc n) (2 ^ 64 - 1)
 
 -- the watcher after the instructions at these pcs retired, the newest first
 abbrev pub after : Watch → List ℕ → Watch
 after w pcs =
     let new = hits w.low w.high pcs in
-    record { low = w.low; high = w.high; count = more w.count (length new); last = option_or (slice_get new 0) w.last }
+    record { low = w.low; high = w.high; count = count_after w.count (length new); last = option_or (slice_get new 0) w.last }
+
+-- a watcher with its last hits, the newest first
+pub record Tail : Type 0 where
+  pub watch : Watch
+  pub tail : List ℕ
+
+-- the last sixteen hits after the instructions at these pcs retired, the newest first
+abbrev pub tail_after : Tail → List ℕ → List ℕ
+tail_after t pcs = take 16 (hits t.watch.low t.watch.high pcs ++ t.tail)
