@@ -1,6 +1,6 @@
 -- For callers that retire one instruction after another: how a watcher's meanings follow on each other.
 use Rattle.std.proofs.Common.{◌≡◌, ℕ, zero, suc, ◌+◌, ◌-◌, ◌^◌, min, List, [], ◌∷◌, ◌++◌, length, map, refl, sym, ap, ◌∙◌, arith, length-append, zero-add, add-zero, ◌<◌}
-use Rattle.std.specs.Prelude.{Option, None, Some, slice_get, Bool, ◌&&◌, nat_le, nat_lt, filter}
+use Rattle.std.specs.Prelude.{Option, slice_get, ◌&&◌, nat_le, nat_lt}
 use Rattle.std.specs.Option.{option_or}
 use Rattle.std.proofs.lemmas.List.Elements.{filter-append}
 use Rattle.th_watch.specs.Watch.{Watch, hits, count_after, after}

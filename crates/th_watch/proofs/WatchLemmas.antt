@@ -1,9 +1,8 @@
 -- Lists whose members change one after another.
-use Rattle.std.proofs.Common.{◌≡◌, ℕ, zero, suc, ◌+◌, ◌<◌, ◌≤◌, List, [], ◌∷◌, ◌++◌, map, length, take, drop, get_or, set, refl, sym, ap, ◌∙◌, arith, add-one, append-nil}
-use Rattle.std.specs.Prelude.{Option, None, Some, option_map, slice_get, remove}
+use Rattle.std.proofs.Common.{◌≡◌, ℕ, zero, suc, ◌+◌, ◌<◌, ◌≤◌, List, [], ◌∷◌, ◌++◌, map, length, take, drop, get_or, set, sym, ap, ◌∙◌, arith, add-one, append-nil}
+use Rattle.std.specs.Prelude.{remove}
 use Rattle.std.proofs.lemmas.List.{map-set, get_or-map, take_all, drop_all, length-map, map-append, take-map}
 use Rattle.std.specs.List.{drop-map}
-use Rattle.std.proofs.lemmas.Option.{slice_get-map, slice_get_read, slice_get_past}
 
 -- f is applied to the first i members, and now to the one at i
 mapped_at : {Y : Type 0} (f : Y → Y) (ws : List Y) (i : ℕ) (w e v : Y) → i < length ws → w ≡ get_or (map f (take i ws) ++ drop i ws) i e → v ≡ f w → set (map f (take i ws) ++ drop i ws) i v ≡ map f (take (suc i) ws) ++ drop (suc i) ws

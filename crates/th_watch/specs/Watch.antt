@@ -1,5 +1,5 @@
 -- What a watcher of retired instructions means.
-use Rattle.std.specs.Prelude.{ℕ, zero, suc, ◌+◌, ◌-◌, ◌^◌, Bool, ◌&&◌, nat_le, nat_lt, min, List, length, filter, Option, None, slice_get, take, ◌++◌}
+use Rattle.std.specs.Prelude.{ℕ, zero, suc, ◌+◌, ◌-◌, ◌^◌, ◌&&◌, nat_le, nat_lt, min, List, length, filter, Option, None, slice_get, take, ◌++◌}
 use Rattle.std.specs.Option.{option_or}
 
 -- the span of a watcher, the count of hits since it was aimed, and the last hit

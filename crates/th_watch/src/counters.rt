@@ -1,7 +1,7 @@
 //! Two watchers: one that counts, and one that keeps the last hits, too.
 
-ghost use Rattle.std.specs.Prelude.{◌≡◌, ℕ, [], ◌∷◌, slice_get, take};
-ghost use Rattle.th_watch.specs.Watch.{Watch, Tail, aimed, after, tail_after};
+ghost use Rattle.std.specs.Prelude.{◌≡◌, [], ◌∷◌, slice_get, take};
+ghost use Rattle.th_watch.specs.Watch.{aimed, after, tail_after};
 
 use crate::Watcher;
 use std::marker::Model;

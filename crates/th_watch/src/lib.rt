@@ -2,17 +2,17 @@
 //! span, and keeps the last.
 #![tactic(auto)]
 
-ghost use Rattle.std.specs.Prelude.{◌≡◌, ◌<◌, ◌≤◌, ℕ, List, [], ◌∷◌, map, IfSome, IfNone, MatchOption, remove, slice_get, Some, option_map};
-ghost use Rattle.std.specs.Vec.{vec_len};
-ghost use Rattle.th_watch.specs.Watch.{Watch, aimed, hits, after};
+ghost use Rattle.std.specs.Prelude.{◌≡◌, [], ◌∷◌, map, remove, slice_get, option_map};
+ghost use Rattle.th_watch.specs.Watch.{Watch, aimed, after};
 
 mod counters;
 
 pub use counters::{SpanCounter, TailWatcher};
 
-/// A watcher. It means a span of addresses, the count of the hits since it was
-/// aimed, and the last hit. An address is a hit where it is in the span: from
-/// its low bound up to its high bound, the high one not among them.
+/// A watcher of retired instructions (docs/MACHINE.md). It means a span of
+/// addresses, the count of the hits since it was aimed, and the last hit. An
+/// address is a hit where it is in the span: from its low bound up to its high
+/// bound, the high one not among them.
 pub trait Watcher: Drop {
     /// The span, the count and the last hit.
     ghost watch: { Self → Watch };

@@ -1,4 +1,3 @@
-use Rattle.std.proofs.Common.{◌≡◌, ℕ}
 use Rattle.th_watch.proofs.WatchLemmas.{seen_rest}
 use Rattle.th_watch.proofs.detach.Goals as goal
 

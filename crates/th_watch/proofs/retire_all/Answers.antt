@@ -1,6 +1,6 @@
-use Rattle.std.proofs.Common.{◌≡◌, ℕ, List, [], ◌∷◌, ◌++◌, map, take, drop, length, ap, ◌∙◌, arith}
+use Rattle.std.proofs.Common.{[], ◌∷◌, map, length, ap, ◌∙◌, arith}
 use Rattle.std.proofs.lemmas.List.{length-map}
-use Rattle.th_watch.specs.Watch.{Watch, after}
+use Rattle.th_watch.specs.Watch.{after}
 use Rattle.th_watch.proofs.WatchLemmas.{mapped-none, mapped-more, mapped-all}
 use Rattle.th_watch.proofs.retire_all.Goals as goal
 

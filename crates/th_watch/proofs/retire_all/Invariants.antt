@@ -1,5 +1,5 @@
-use Rattle.std.proofs.Common.{◌≡◌, ℕ, List, [], ◌∷◌, ◌++◌, map, take, drop}
-use Rattle.th_watch.specs.Watch.{Watch, after}
+use Rattle.std.proofs.Common.{◌≡◌, [], ◌∷◌, ◌++◌, map, take, drop}
+use Rattle.th_watch.specs.Watch.{after}
 use Rattle.th_watch.proofs.retire_all.Given as goal
 
 abbrev pub invariant-loop-watcher : goal.invariant-loop-watcher

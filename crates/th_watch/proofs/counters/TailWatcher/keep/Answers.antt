@@ -1,4 +1,4 @@
-use Rattle.std.proofs.Common.{◌≡◌, ℕ, arith}
+use Rattle.std.proofs.Common.{arith}
 use Rattle.th_watch.proofs.TailLemmas.{take-rotated, take-rotated_full}
 use Rattle.th_watch.proofs.counters.TailWatcher.keep.Goals as goal
 
