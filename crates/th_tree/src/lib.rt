@@ -1,2 +1,12 @@
-//! Not written yet.
+//! Names and tokens, and what the cutting of a text into tokens is.
 #![tactic(auto)]
+
+mod lists;
+mod name_table;
+mod names;
+mod tokens;
+
+pub use lists::{ByteList, NumberList};
+pub use name_table::NameTable;
+pub use names::Name;
+pub use tokens::{Reserved, Sym, Token, TokenKind, Tokens};
