@@ -1,2 +1,12 @@
-//! Not written yet.
+//! ELF executables: the file that an image is written as, and the segments of files of any maker.
 #![tactic(auto)]
+
+mod error;
+mod image;
+mod lists;
+mod segments;
+
+pub use error::{ElfError, Field};
+pub use image::{Image, Map, MapList};
+pub use lists::{ByteList, NumberList};
+pub use segments::{Segment, SegmentList, Segments};

@@ -1,0 +1,38 @@
+//! Why a file can't be read.
+use thiserror::Error;
+
+/// What of a file is judged, in the order in which it is judged (docs/FORMATS.md).
+#[derive(Clone, Copy, PartialEq, Eq, Debug, Drop)]
+pub enum Field {
+    /// The file has at least the 52 bytes of the header.
+    Length,
+    /// The first four bytes are `7F 45 4C 46`.
+    Magic,
+    /// Byte 4 is 1: words of 32 bits.
+    Class,
+    /// Byte 5 is 1: the low byte of a number comes first.
+    Order,
+    /// Byte 6 and the version are 1.
+    Version,
+    /// The type is 2: an executable file.
+    Kind,
+    /// The machine is 243: RISC-V.
+    Machine,
+    /// Bit 0 of the flags is clear: no compressed instructions.
+    Flags,
+    /// There are no program headers, or each has 32 bytes and all lie in the file.
+    Entries,
+    /// Each segment that is loaded has its bytes in the file, its addresses below 0x08000000, and none of an earlier one.
+    Segment,
+}
+
+/// Why a file can't be read.
+#[derive(Debug, Drop, Error)]
+pub enum ElfError {
+    /// The first condition that the file doesn't meet.
+    #[error("bad elf {0:?}")]
+    BadElf(Field),
+    /// There is no memory for the segments.
+    #[error("out of memory")]
+    Memory,
+}
