@@ -1,5 +1,5 @@
 -- Which files are loadable, and what they are loaded as.
-use Rattle.std.specs.Prelude.{ℕ, zero, suc, ◌+◌, ◌*◌, ◌%◌, List, [], ◌∷◌, length, take, drop, map, filter, find, Option, Bool, true, false, not, ◌&&◌, ◌||◌, nat_lt, nat_le, nat_eq, slice_index}
+use Rattle.std.specs.Prelude.{ℕ, zero, suc, ◌+◌, ◌*◌, ◌%◌, List, [], ◌∷◌, length, take, drop, map, filter, find, Option, Bool, true, not, ◌&&◌, ◌||◌, nat_lt, nat_le, nat_eq, slice_index}
 use Rattle.std.specs.List.{list_all}
 use Rattle.th_elf.specs.declared.error.Field.{Field}
 use Rattle.th_elf.specs.declared.error.Field.TheVariants as field
@@ -35,7 +35,7 @@ header_at file at = record {
   vaddr = word_of file (at + 8);
   filesz = word_of file (at + 16);
   memsz = word_of file (at + 20);
-  flags = word_of file (at + 24)
+  flags = word_of file (at + 24);
 }
 
 -- the n program headers from a place on

@@ -1,5 +1,5 @@
 -- The bytes of the file that an image is written as.
-use Rattle.std.specs.Prelude.{ℕ, ◌+◌, ◌*◌, ◌/◌, ◌%◌, List, [], ◌∷◌, ◌++◌, length, replicate, flat_map}
+use Rattle.std.specs.Prelude.{ℕ, ◌/◌, ◌%◌, List, [], ◌∷◌, ◌++◌, length, replicate, flat_map}
 use Rattle.th_elf.specs.declared.image.Image.{Image}
 
 -- a number of 16 bits as two bytes, the low one first
