@@ -3,6 +3,7 @@ use Rattle.std.specs.Prelude.{ℕ, zero, suc, ◌+◌, ◌*◌, ◌%◌, List, [
 use Rattle.std.specs.List.{list_all}
 use Rattle.th_elf.specs.declared.error.Field.{Field}
 use Rattle.th_elf.specs.declared.error.Field.TheVariants as field
+use Rattle.th_elf.specs.declared.header.Header.{Header}
 use Rattle.th_elf.specs.declared.segments.Segment.{Segment}
 use Rattle.th_elf.specs.declared.segments.Segments.{Segments}
 
@@ -17,15 +18,6 @@ half_of file at = byte_of file at + 256 * byte_of file (at + 1)
 -- the number of 32 bits at a place of a file, the lowest byte first
 abbrev pub word_of : List ℕ → ℕ → ℕ
 word_of file at = byte_of file at + 256 * byte_of file (at + 1) + 65536 * byte_of file (at + 2) + 16777216 * byte_of file (at + 3)
-
--- the fields of a program header that are read
-pub record Header : Type 0 where
-  pub kind : ℕ
-  pub offset : ℕ
-  pub vaddr : ℕ
-  pub filesz : ℕ
-  pub memsz : ℕ
-  pub flags : ℕ
 
 -- the program header at a place of a file
 unfoldable pub header_at : List ℕ → ℕ → Header
@@ -73,10 +65,10 @@ is_placed file h = nat_le h.filesz h.memsz && lies_in file h.offset h.filesz && 
 abbrev pub are_apart : Header → Header → Bool
 are_apart h k = nat_le (h.vaddr + h.memsz) k.vaddr || nat_le (k.vaddr + k.memsz) h.vaddr
 
--- whether each segment of a list is lawful by itself, and has no address of an earlier one
-abbrev pub are_lawful : List ℕ → List Header → Bool
-are_lawful file [] = true
-are_lawful file (h ∷ hs) = is_placed file h && list_all (are_apart h) hs && are_lawful file hs
+-- whether no segment of a list has an address of an earlier one
+abbrev pub are_all_apart : List Header → Bool
+are_all_apart [] = true
+are_all_apart (h ∷ hs) = list_all (are_apart h) hs && are_all_apart hs
 
 -- whether a file meets the condition on a field
 abbrev pub meets : List ℕ → Field → Bool
@@ -89,7 +81,7 @@ meets file field.Kind = nat_eq (half_of file 16) 2
 meets file field.Machine = nat_eq (half_of file 18) 243
 meets file field.Flags = nat_eq (word_of file 36 % 2) 0
 meets file field.Entries = nat_eq (header_count file) 0 || (nat_eq (header_size file) 32 && lies_in file (first_header file) (32 * header_count file))
-meets file field.Segment = are_lawful file (loaded_headers file)
+meets file field.Segment = list_all (is_placed file) (loaded_headers file) && are_all_apart (loaded_headers file)
 
 -- the fields in the order in which they are judged
 abbrev pub fields : List Field
