@@ -1,3 +1,4 @@
 pub mod Written
 pub mod Loadable
+pub mod Rising
 pub mod Run
