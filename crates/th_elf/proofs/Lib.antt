@@ -1,3 +1,4 @@
 pub mod Judged
 pub mod Form
 pub mod Apart
+pub mod Logs

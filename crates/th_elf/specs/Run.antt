@@ -59,14 +59,22 @@ with_a0 s word = record s { regs = slice_set s.regs 10 word }
 abbrev pub no_byte : ℕ
 no_byte = 0xFFFFFFFF
 
+-- the machine in a state that runs
+abbrev pub running : State → Machine
+running s = record { state = s; status = Running }
+
+-- the run of a machine with an input left and a log
+abbrev pub run_of : Machine → List ℕ → List Retired → Run
+run_of m input log = record { state = m.state; status = m.status; input = input; log = log }
+
 -- Given an input, a run is a function.
 
 -- a run that begins
-unfoldable pub start : State → List ℕ → Run
-start s input = record { state = s; status = Running; input = input; log = [] }
+abbrev pub start : State → List ℕ → Run
+start s input = run_of (running s) input []
 
 -- a run after the instruction that it is at is retired: what that did, how the machine then stands, the input left
-unfoldable pub retired : Run → Option Event → State → Status → List ℕ → Run
+abbrev pub retired : Run → Option Event → State → Status → List ℕ → Run
 retired r did s status input = record { state = s; status = status; input = input; log = record { pc = r.state.pc; did = did } ∷ r.log }
 
 -- a run after a call for a byte, by the input that is left
@@ -136,10 +144,6 @@ abbrev pub names_of : List Map → ℕ → Option (List ℕ)
 names_of units a = option_map (λ u. u.unit) (find (λ u. nat_eq u.at a) units)
 
 -- Whatever the input, a run is a relation between machines, with the log of what was retired.
-
--- the machine in a state that runs
-abbrev pub running : State → Machine
-running s = record { state = s; status = Running }
 
 -- a machine that asked for a byte is then in such a way: it took one, or found the end of the input
 abbrev pub Got : State → Option Event → Machine → Type 0
