@@ -1,7 +1,7 @@
 -- The written form of an image is loadable, and is loaded as one segment.
 use Rattle.std.proofs.Common.{◌≡◌, ℕ, zero, suc, ◌+◌, ◌*◌, ◌/◌, ◌%◌, ◌^◌, ◌<◌, ◌≤◌, List, [], ◌∷◌, ◌++◌, length, take, drop, map, Option, None, Bool, true, false, ◌&&◌, nat_lt, nat_le, nat_eq, refl, sym, ◌∙◌, ap, subst, arith, length-append}
 use Rattle.std.specs.Prelude.{filter}
-use Rattle.std.specs.List.{list_all}
+use Rattle.std.specs.List.{list_all, flat_map}
 use Rattle.std.proofs.lemmas.Bool.{cond-true, lt-ltb, le-leb, and_from, or_right}
 use Rattle.std.proofs.lemmas.List.{take_all, drop_at}
 use Rattle.th_elf.specs.declared.image.Image.{Image}
@@ -9,7 +9,7 @@ use Rattle.th_elf.specs.declared.error.Field.{Field}
 use Rattle.th_elf.specs.declared.error.Field.TheVariants as field
 use Rattle.th_elf.specs.declared.segments.Segments.{Segments}
 use Rattle.th_elf.specs.declared.segments.Segment.{Segment}
-use Rattle.th_elf.specs.Written.{file_header, program_header, content, written}
+use Rattle.th_elf.specs.Written.{half_bytes, words_bytes, file_header, program_header, content, written}
 use Rattle.th_elf.specs.declared.header.Header.{Header}
 use Rattle.th_elf.specs.Loadable.{header_at, is_loaded, is_placed, are_all_apart, loaded_headers, first_failing, segments_of, segment_of, meets}
 use Rattle.th_elf.proofs.Judged.{none_failing}
@@ -80,6 +80,43 @@ form_segments c some fits =
     let lt : length c < 2 ^ 32 = omega arith in
     ap (λ l. record { entry = 0x00010000; list = map (segment_of (form (length c) c)) l }) (loaded_is (length c) c some lt)
     ∙ ap (λ s. record { entry = 0x00010000; list = s ∷ [] }) (segment_is (length c) c refl)
+
+pub length_words : (ws : List ℕ) → length (words_bytes ws) ≡ 4 * length ws
+length_words [] = refl
+length_words (w ∷ ws) = omega (arith, length_words ws)
+
+-- the bytes of an image's content: four for each code word, and those of the tables
+pub length_content : (image : Image) → length (content image) ≡ 4 * length image.code + length image.tables
+length_content image = length-append (words_bytes image.code) image.tables ∙ ap (λ n. n + length image.tables) (length_words image.code)
+
+-- the parts of a written form, put one after the other
+pub put_together : (image : Image) (code tables f0 f1 f2 f3 f4 f5 f6 file : List ℕ) →
+    code ≡ image.code
+    → tables ≡ image.tables
+    → f0 ≡ []
+    → f1 ≡ f0 ++ (0x7F ∷ 0x45 ∷ 0x4C ∷ 0x46 ∷ 1 ∷ 1 ∷ 1 ∷ 0 ∷ 0 ∷ 0 ∷ 0 ∷ 0 ∷ 0 ∷ 0 ∷ 0 ∷ 0 ∷ [])
+    → f2 ≡ f1 ++ flat_map half_bytes (2 ∷ 243 ∷ [])
+    → f3 ≡ f2 ++ words_bytes (1 ∷ image.entry ∷ 52 ∷ 0 ∷ 0 ∷ [])
+    → f4 ≡ f3 ++ flat_map half_bytes (52 ∷ 32 ∷ 1 ∷ 0 ∷ 0 ∷ 0 ∷ [])
+    → f5 ≡ f4 ++ words_bytes (1 ∷ 84 ∷ 0x00010000 ∷ 0x00010000 ∷ (4 * length code + length tables) ∷ (4 * length code + length tables) ∷ 5 ∷ 4 ∷ [])
+    → f6 ≡ f5 ++ words_bytes code
+    → file ≡ f6 ++ tables
+    → file ≡ written image
+unfolding written
+put_together image code tables f0 f1 f2 f3 f4 f5 f6 file ec et e0 e1 e2 e3 e4 e5 e6 e7 =
+    let n = 4 * length image.code + length image.tables in
+    let size : 4 * length code + length tables ≡ n = ap (λ l. 4 * length l + length tables) ec ∙ ap (λ l. 4 * length image.code + length l) et in
+    let g5 : f5 ≡ f4 ++ words_bytes (1 ∷ 84 ∷ 0x00010000 ∷ 0x00010000 ∷ n ∷ n ∷ 5 ∷ 4 ∷ []) =
+      e5 ∙ ap (λ n. f4 ++ words_bytes (1 ∷ 84 ∷ 0x00010000 ∷ 0x00010000 ∷ n ∷ n ∷ 5 ∷ 4 ∷ [])) size in
+    let g6 : f6 ≡ f5 ++ words_bytes image.code = e6 ∙ ap (λ l. f5 ++ words_bytes l) ec in
+    let g7 : file ≡ f6 ++ image.tables = e7 ∙ ap (λ l. f6 ++ l) et in
+    g7 ∙ ap (λ f. f ++ image.tables) (g6 ∙ ap (λ f. f ++ words_bytes image.code)
+      (g5 ∙ ap (λ f. f ++ words_bytes (1 ∷ 84 ∷ 0x00010000 ∷ 0x00010000 ∷ n ∷ n ∷ 5 ∷ 4 ∷ []))
+      (e4 ∙ ap (λ f. f ++ flat_map half_bytes (52 ∷ 32 ∷ 1 ∷ 0 ∷ 0 ∷ 0 ∷ []))
+      (e3 ∙ ap (λ f. f ++ words_bytes (1 ∷ image.entry ∷ 52 ∷ 0 ∷ 0 ∷ []))
+      (e2 ∙ ap (λ f. f ++ flat_map half_bytes (2 ∷ 243 ∷ []))
+      (e1 ∙ ap (λ f. f ++ (0x7F ∷ 0x45 ∷ 0x4C ∷ 0x46 ∷ 1 ∷ 1 ∷ 1 ∷ 0 ∷ 0 ∷ 0 ∷ 0 ∷ 0 ∷ 0 ∷ 0 ∷ 0 ∷ 0 ∷ [])) e0))))))
+    ∙ ap (λ n. file_header image.entry ++ program_header n ++ content image) (sym (length_content image))
 
 -- the file of an image is loadable
 pub written_loadable : (image : Image) → image.entry ≡ 0x00010000 → 0 < length (content image) → length (content image) ≤ 134152192 → first_failing (written image) ≡ None

@@ -6,8 +6,10 @@ mod header;
 mod image;
 mod lists;
 mod segments;
+mod write;
 
 pub use error::{ElfError, Field};
 pub use image::{Image, Map, MapList};
 pub use lists::{ByteList, NumberList};
 pub use segments::{Segment, SegmentList, Segments};
+pub use write::write_elf;
