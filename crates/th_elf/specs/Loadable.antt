@@ -1,8 +1,10 @@
 -- Which files are loadable, and what they are loaded as.
-use Rattle.std.specs.Prelude.{ℕ, zero, suc, ◌+◌, ◌*◌, ◌%◌, List, [], ◌∷◌, length, take, drop, map, filter, find, Option, Bool, true, not, ◌&&◌, ◌||◌, nat_lt, nat_le, nat_eq, slice_index}
+use Rattle.std.specs.Prelude.{◌≡◌, ◌++◌, Some, ℕ, zero, suc, ◌+◌, ◌*◌, ◌%◌, List, [], ◌∷◌, length, take, drop, map, filter, find, Option, Bool, true, not, ◌&&◌, ◌||◌, nat_lt, nat_le, nat_eq, slice_index}
 use Rattle.std.specs.List.{list_all}
 use Rattle.th_elf.specs.declared.error.Field.{Field}
 use Rattle.th_elf.specs.declared.error.Field.TheVariants as field
+use Rattle.th_elf.specs.declared.error.ElfError.{ElfError}
+use Rattle.th_elf.specs.declared.error.ElfError.TheVariants.{BadElf, Memory}
 use Rattle.th_elf.specs.declared.header.Header.{Header}
 use Rattle.th_elf.specs.declared.segments.Segment.{Segment}
 use Rattle.th_elf.specs.declared.segments.Segments.{Segments}
@@ -83,13 +85,21 @@ meets file field.Flags = nat_eq (word_of file 36 % 2) 0
 meets file field.Entries = nat_eq (header_count file) 0 || (nat_eq (header_size file) 32 && lies_in file (first_header file) (32 * header_count file))
 meets file field.Segment = list_all (is_placed file) (loaded_headers file) && are_all_apart (loaded_headers file)
 
--- the fields in the order in which they are judged
+-- the fields of the header and of the table of program headers, in the order in which they are judged
+abbrev pub header_fields : List Field
+header_fields = field.Length ∷ field.Magic ∷ field.Class ∷ field.Order ∷ field.Version ∷ field.Kind ∷ field.Machine ∷ field.Flags ∷ field.Entries ∷ []
+
+-- all fields in the order in which they are judged
 abbrev pub fields : List Field
-fields = field.Length ∷ field.Magic ∷ field.Class ∷ field.Order ∷ field.Version ∷ field.Kind ∷ field.Machine ∷ field.Flags ∷ field.Entries ∷ field.Segment ∷ []
+fields = header_fields ++ field.Segment ∷ []
+
+-- the first of some fields whose condition a file doesn't meet
+abbrev pub first_of : List ℕ → List Field → Option Field
+first_of file fs = find (λ f. not (meets file f)) fs
 
 -- the first field whose condition a file doesn't meet; none where the file is loadable
 unfoldable pub first_failing : List ℕ → Option Field
-first_failing file = find (λ f. not (meets file f)) fields
+first_failing file = first_of file fields
 
 -- what a program header's segment is loaded as: memsz bytes at vaddr, the first filesz of them from the file
 unfoldable pub segment_of : List ℕ → Header → Segment
@@ -98,3 +108,8 @@ segment_of file h = record { at = h.vaddr; flags = h.flags; size = h.memsz; byte
 -- what a loadable file is loaded as
 unfoldable pub segments_of : List ℕ → Segments
 segments_of file = record { entry = word_of file 24; list = map (segment_of file) (loaded_headers file) }
+
+-- the error where a file can't be read: of a file that isn't loadable the first failing field
+abbrev pub Refuses : List ℕ → ElfError → Type 0
+Refuses file (BadElf field) = first_failing file ≡ Some field
+Refuses file Memory = Unit {0}

@@ -1,4 +1,8 @@
 //! Why a file can't be read.
+ghost use Rattle.std.specs.Prelude.{◌≡◌};
+ghost use Rattle.th_elf.specs.declared.error.ElfError.TheVariants.{Memory};
+
+use std::alloc::AllocError;
 use thiserror::Error;
 
 /// What of a file is judged, in the order in which it is judged (docs/FORMATS.md).
@@ -35,4 +39,12 @@ pub enum ElfError {
     /// There is no memory for the segments.
     #[error("out of memory")]
     Memory,
+}
+
+impl From<AllocError> for ElfError {
+    ghost from_gives = { λ _ e. e ≡ Memory };
+
+    fn from(_error: AllocError) -> ElfError {
+        ElfError::Memory
+    }
 }

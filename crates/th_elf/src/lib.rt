@@ -2,6 +2,7 @@
 #![tactic(auto)]
 
 mod error;
+mod file;
 mod header;
 mod image;
 mod lists;
