@@ -1,4 +1,5 @@
 pub mod Judged
 pub mod Form
 pub mod Apart
+pub mod Headers
 pub mod Logs

@@ -5,6 +5,7 @@ mod error;
 mod file;
 mod header;
 mod image;
+mod judge;
 mod lists;
 mod segments;
 mod write;
