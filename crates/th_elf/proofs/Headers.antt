@@ -1,9 +1,10 @@
 -- The program headers of what is loaded, one after the other.
 use Rattle.std.proofs.Common.{◌≡◌, ℕ, zero, suc, ◌+◌, ◌*◌, ◌-◌, ◌<◌, List, [], ◌∷◌, ◌++◌, Bool, true, false, refl, sym, ◌∙◌, ap, append_assoc, arith}
-use Rattle.std.specs.Prelude.{filter}
-use Rattle.std.proofs.lemmas.Bool.{cond-true, cond-false}
+use Rattle.std.specs.Prelude.{filter, All}
+use Rattle.std.proofs.lemmas.Bool.{cond-true, cond-false, and_parts, ltb-true}
+use Rattle.std.proofs.lemmas.List.Elements.{filter_passes}
 use Rattle.th_elf.specs.declared.header.Header.{Header}
-use Rattle.th_elf.specs.Loadable.{header_at, is_loaded, headers_from}
+use Rattle.th_elf.specs.Loadable.{header_at, is_loaded, headers_from, header_count, first_header, loaded_headers}
 
 -- the first of the headers that are left
 first_left : (file : List ℕ) (count first i : ℕ) → i < count → headers_from file (count - i) (first + 32 * i) ≡ header_at file (first + 32 * i) ∷ headers_from file (count - (i + 1)) (first + 32 * (i + 1))
@@ -27,3 +28,8 @@ next_passed file count first i before all h lt is passed so_far =
     ap (λ l. before ++ l) (sym (cond-false (is_loaded h) (h ∷ filter is_loaded rest) (filter is_loaded rest) passed)
       ∙ ap (λ x. filter is_loaded (x ∷ rest)) is ∙ ap (filter is_loaded) (sym (first_left file count first i lt)))
     ∙ so_far
+
+-- what is loaded has bytes in memory
+pub loaded_have_bytes : (file : List ℕ) → All (λ h. 0 < h.memsz) (loaded_headers file)
+loaded_have_bytes file k d lt =
+    ltb-true _ _ (and_parts _ _ (filter_passes is_loaded (headers_from file (header_count file) (first_header file)) k d lt)).1
