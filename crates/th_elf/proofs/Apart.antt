@@ -12,7 +12,7 @@ use Rattle.th_elf.specs.Rising.{rises_from}
 
 -- Pairs by places.
 
-all_at : {X : Type 0} (p : X → Bool) (xs : List X) (k : ℕ) (d : X) → list_all p xs ≡ true → k < length xs → p (get_or xs k d) ≡ true
+pub all_at : {X : Type 0} (p : X → Bool) (xs : List X) (k : ℕ) (d : X) → list_all p xs ≡ true → k < length xs → p (get_or xs k d) ≡ true
 all_at p [] k d all lt = absurd (omega arith)
 all_at p (x ∷ xs) zero d all lt = (and_parts _ _ all).0
 all_at p (x ∷ xs) (suc k) d all lt = all_at p xs k d (and_parts _ _ all).1 (omega arith)
@@ -22,10 +22,10 @@ at_all p [] at = refl
 at_all p (x ∷ xs) at = and_from _ _ (at zero x (omega arith)) (at_all p xs (λ k d lt. at (suc k) d (omega arith)))
 
 -- two segments have no address in common, as a fact
-abbrev Apart : Header → Header → Type 0
+abbrev pub Apart : Header → Header → Type 0
 Apart h k = are_apart h k ≡ true
 
-apart_cases : (h k : Header) → Apart h k → (h.vaddr + h.memsz ≤ k.vaddr) ⊎ (k.vaddr + k.memsz ≤ h.vaddr)
+pub apart_cases : (h k : Header) → Apart h k → (h.vaddr + h.memsz ≤ k.vaddr) ⊎ (k.vaddr + k.memsz ≤ h.vaddr)
 apart_cases h k a =
     ⊎_elim (λ l. inl (leb-true _ _ l)) (λ r. inr (leb-true _ _ r))
       (or_cases (nat_le (h.vaddr + h.memsz) k.vaddr) (nat_le (k.vaddr + k.memsz) h.vaddr) a)
@@ -39,7 +39,7 @@ apart_after h k l = or_right (nat_le (h.vaddr + h.memsz) k.vaddr) (nat_le (k.vad
 apart_sym : (h k : Header) → Apart h k → Apart k h
 apart_sym h k a = ⊎_elim (λ l. apart_after k h l) (λ r. apart_before k h r) (apart_cases h k a)
 
-pairs_from : (xs : List Header) → are_all_apart xs ≡ true → AllPairs Apart xs
+pub pairs_from : (xs : List Header) → are_all_apart xs ≡ true → AllPairs Apart xs
 pairs_from [] all i j d lt below = absurd (omega arith)
 pairs_from (x ∷ xs) all zero zero d lt below = absurd (omega arith)
 pairs_from (x ∷ xs) all zero (suc j) d lt below = all_at (are_apart x) xs j d (and_parts _ _ all).0 (omega arith)
