@@ -1,11 +1,11 @@
 -- Segments that have no address in common, judged on the list in order of their addresses.
-use Rattle.std.proofs.Common.{◌≡◌, ◌≢◌, ◌⊎◌, ℕ, zero, suc, ◌+◌, ◌-◌, ◌<◌, ◌≤◌, List, [], ◌∷◌, length, get_or, Bool, true, false, cond, eqb, ◌&&◌, ◌||◌, nat_lt, nat_le, refl, sym, ◌∙◌, ap, subst, ⊎_elim, inl, inr, arith}
+use Rattle.std.proofs.Common.{◌≡◌, ◌≢◌, ◌⊎◌, ℕ, zero, suc, ◌+◌, ◌<◌, ◌≤◌, List, [], ◌∷◌, length, get_or, Bool, true, false, cond, eqb, nat_le, refl, sym, subst, ⊎_elim, inl, inr, arith}
 use Rattle.std.specs.List.{list_all, All, AllPairs, swap}
 use Rattle.std.proofs.lemmas.Bool.Decides.{nat_tests}
 use Rattle.std.specs.List.Sorted.{IsPermutation, IsNonDecreasingBy}
-use Rattle.std.proofs.lemmas.Bool.{leb-true, le-leb, and_parts, and_from, or_cases, or_left, or_right, cases_eq, cases_order, cases_Bool, eq-eqb, ne_eqb}
+use Rattle.std.proofs.lemmas.Bool.{leb-true, le-leb, and_parts, and_from, or_cases, or_left, or_right, cases_order}
 use Rattle.std.proofs.lemmas.List.Edits.{Swapped, swapped_from_swap, length-swap}
-use Rattle.std.proofs.lemmas.List.Sorted.{IsPermutation-keeps, IsPermutation-sym, length_permutation, All-permutation}
+use Rattle.std.proofs.lemmas.List.Sorted.{IsPermutation-keeps, IsPermutation-sym, All-permutation}
 use Rattle.th_elf.specs.declared.header.Header.{Header}
 use Rattle.th_elf.specs.Loadable.{are_apart, are_all_apart}
 use Rattle.th_elf.specs.Rising.{rises_from}
@@ -28,7 +28,7 @@ Apart h k = are_apart h k ≡ true
 pub apart_cases : (h k : Header) → Apart h k → (h.vaddr + h.memsz ≤ k.vaddr) ⊎ (k.vaddr + k.memsz ≤ h.vaddr)
 apart_cases h k a =
     ⊎_elim (λ l. inl (leb-true _ _ l)) (λ r. inr (leb-true _ _ r))
-      (or_cases (nat_le (h.vaddr + h.memsz) k.vaddr) (nat_le (k.vaddr + k.memsz) h.vaddr) a)
+    (or_cases (nat_le (h.vaddr + h.memsz) k.vaddr) (nat_le (k.vaddr + k.memsz) h.vaddr) a)
 
 apart_before : (h k : Header) → h.vaddr + h.memsz ≤ k.vaddr → Apart h k
 apart_before h k l = or_left (nat_le (h.vaddr + h.memsz) k.vaddr) (nat_le (k.vaddr + k.memsz) h.vaddr) (le-leb _ _ l)
@@ -50,8 +50,8 @@ from_pairs : (xs : List Header) → AllPairs Apart xs → are_all_apart xs ≡ t
 from_pairs [] all = refl
 from_pairs (x ∷ xs) all =
     and_from _ _
-      (at_all (are_apart x) xs (λ k d lt. all zero (suc k) d (omega arith) (omega arith)))
-      (from_pairs xs (λ i j d lt below. all (suc i) (suc j) d (omega arith) (omega arith)))
+    (at_all (are_apart x) xs (λ k d lt. all zero (suc k) d (omega arith) (omega arith)))
+    (from_pairs xs (λ i j d lt below. all (suc i) (suc j) d (omega arith) (omega arith)))
 
 -- any two places, in either order
 each_two : (xs : List Header) → AllPairs Apart xs → (i j : ℕ) (d : Header) → i ≢ j → i < length xs → j < length xs → Apart (get_or xs i d) (get_or xs j d)
@@ -81,8 +81,8 @@ swap_keeps l a b la lb all i j d lt below =
     let f = λ (k : ℕ). get_or l k d in
     let g = λ (k : ℕ). get_or (swap l a b) k d in
     let two : Apart (f (came_from a b i)) (f (came_from a b j)) =
-      each_two l all (came_from a b i) (came_from a b j) d (came_apart a b i j ne)
-        (came_in (length l) a b i la lb li) (came_in (length l) a b j la lb lj) in
+    each_two l all (came_from a b i) (came_from a b j) d (came_apart a b i j ne)
+    (came_in (length l) a b i la lb li) (came_in (length l) a b j la lb lj) in
     let one : Apart (g i) (f (came_from a b j)) = subst (λ h. Apart h (f (came_from a b j))) (sym (came_is f g a b i s)) two in
     subst (λ h. Apart (g i) h) (sym (came_is f g a b j s)) one
 
@@ -109,9 +109,10 @@ Rising (x ∷ xs) = Each (λ k. x.vaddr ≤ k.vaddr) xs × Rising xs
 
 rising_from : (xs : List Header) → IsNonDecreasingBy (λ h. h.vaddr) xs → Rising xs
 rising_from [] up = tt
-rising_from (x ∷ xs) up =
-    ( each_from (λ k. x.vaddr ≤ k.vaddr) xs (λ k d lt. up zero (suc k) d (omega arith) (omega arith))
-    , rising_from xs (λ i j d le lt. up (suc i) (suc j) d (omega arith) (omega arith)) )
+rising_from (x ∷ xs) up = (
+  each_from (λ k. x.vaddr ≤ k.vaddr) xs (λ k d lt. up zero (suc k) d (omega arith) (omega arith)),
+  rising_from xs (λ i j d le lt. up (suc i) (suc j) d (omega arith) (omega arith)),
+)
 
 -- where segments rise from an address, all begin at or after it
 rises_above : (end : ℕ) (xs : List Header) → rises_from end xs ≡ true → Each (λ k. end ≤ k.vaddr) xs
@@ -120,9 +121,9 @@ rises_above end (x ∷ xs) up =
     let first : end ≤ x.vaddr = leb-true _ _ (and_parts _ _ up).0 in
     (first, weaker xs end (x.vaddr + x.memsz) (omega arith) (rises_above (x.vaddr + x.memsz) xs (and_parts _ _ up).1))
   where
-  weaker : (xs : List Header) (low high : ℕ) → low ≤ high → Each (λ k. high ≤ k.vaddr) xs → Each (λ k. low ≤ k.vaddr) xs
-  weaker [] low high le all = tt
-  weaker (y ∷ ys) low high le all = (omega arith, weaker ys low high le all.1)
+    weaker : (xs : List Header) (low high : ℕ) → low ≤ high → Each (λ k. high ≤ k.vaddr) xs → Each (λ k. low ≤ k.vaddr) xs
+    weaker [] low high le all = tt
+    weaker (y ∷ ys) low high le all = (omega arith, weaker ys low high le all.1)
 
 all_after : (h : Header) (xs : List Header) → Each (λ k. h.vaddr + h.memsz ≤ k.vaddr) xs → list_all (are_apart h) xs ≡ true
 all_after h [] all = refl
@@ -148,7 +149,7 @@ rise_from_apart : (end : ℕ) (xs : List Header) → Each (λ k. 0 < k.memsz) xs
 rise_from_apart end [] some up above all = refl
 rise_from_apart end (x ∷ xs) some up above all =
     and_from _ _ (le-leb _ _ above.0)
-      (rise_from_apart (x.vaddr + x.memsz) xs some.1 up.1 (all_past x xs some.1 up.0 (and_parts _ _ all).0) (and_parts _ _ all).1)
+    (rise_from_apart (x.vaddr + x.memsz) xs some.1 up.1 (all_past x xs some.1 up.0 (and_parts _ _ all).0) (and_parts _ _ all).1)
 
 same_test : (b c : Bool) → (b ≡ true → c ≡ true) → (c ≡ true → b ≡ true) → b ≡ c
 same_test true c to back = sym (to refl)
@@ -163,7 +164,7 @@ above_zero (x ∷ xs) = (omega arith, above_zero xs)
 pub apart_by_order : (xs ys : List Header) → IsPermutation xs ys → IsNonDecreasingBy (λ h. h.vaddr) ys → All (λ h. 0 < h.memsz) xs → are_all_apart xs ≡ rises_from 0 ys
 apart_by_order xs ys perm up some =
     same_test (are_all_apart xs) (rises_from 0 ys)
-      (λ apart. rise_from_apart 0 ys
-        (each_from (λ k. 0 < k.memsz) ys (All-permutation (λ h. 0 < h.memsz) xs ys perm some)) (rising_from ys up) (above_zero ys)
-        (permuted_apart xs ys perm apart))
-      (λ rise. permuted_apart ys xs (IsPermutation-sym xs ys perm) (apart_from_rise 0 ys rise))
+    (λ apart. rise_from_apart 0 ys
+    (each_from (λ k. 0 < k.memsz) ys (All-permutation (λ h. 0 < h.memsz) xs ys perm some)) (rising_from ys up) (above_zero ys)
+    (permuted_apart xs ys perm apart))
+    (λ rise. permuted_apart ys xs (IsPermutation-sym xs ys perm) (apart_from_rise 0 ys rise))

@@ -1,5 +1,5 @@
 -- The written form of an image is loadable, and is loaded as one segment.
-use Rattle.std.proofs.Common.{◌≡◌, ℕ, zero, suc, ◌+◌, ◌*◌, ◌/◌, ◌%◌, ◌^◌, ◌<◌, ◌≤◌, List, [], ◌∷◌, ◌++◌, length, take, drop, map, Option, None, Bool, true, false, ◌&&◌, nat_lt, nat_le, nat_eq, refl, sym, ◌∙◌, ap, subst, arith, length-append}
+use Rattle.std.proofs.Common.{◌≡◌, ℕ, ◌+◌, ◌*◌, ◌/◌, ◌%◌, ◌^◌, ◌<◌, ◌≤◌, List, [], ◌∷◌, ◌++◌, length, take, drop, map, None, true, ◌&&◌, nat_le, refl, sym, ◌∙◌, ap, arith, length-append}
 use Rattle.std.specs.Prelude.{filter}
 use Rattle.std.specs.List.{list_all, flat_map}
 use Rattle.std.proofs.lemmas.Bool.{cond-true, lt-ltb, le-leb, and_from, or_right}
@@ -8,7 +8,6 @@ use Rattle.th_elf.specs.declared.image.Image.{Image}
 use Rattle.th_elf.specs.declared.error.Field.{Field}
 use Rattle.th_elf.specs.declared.error.Field.TheVariants as field
 use Rattle.th_elf.specs.declared.segments.Segments.{Segments}
-use Rattle.th_elf.specs.declared.segments.Segment.{Segment}
 use Rattle.th_elf.specs.Written.{half_bytes, words_bytes, file_header, program_header, content, written}
 use Rattle.th_elf.specs.declared.header.Header.{Header}
 use Rattle.th_elf.specs.Loadable.{header_at, is_loaded, is_placed, are_all_apart, loaded_headers, first_failing, segments_of, segment_of, meets}
@@ -107,15 +106,15 @@ put_together image code tables f0 f1 f2 f3 f4 f5 f6 file ec et e0 e1 e2 e3 e4 e5
     let n = 4 * length image.code + length image.tables in
     let size : 4 * length code + length tables ≡ n = ap (λ l. 4 * length l + length tables) ec ∙ ap (λ l. 4 * length image.code + length l) et in
     let g5 : f5 ≡ f4 ++ words_bytes (1 ∷ 84 ∷ 0x00010000 ∷ 0x00010000 ∷ n ∷ n ∷ 5 ∷ 4 ∷ []) =
-      e5 ∙ ap (λ n. f4 ++ words_bytes (1 ∷ 84 ∷ 0x00010000 ∷ 0x00010000 ∷ n ∷ n ∷ 5 ∷ 4 ∷ [])) size in
+    e5 ∙ ap (λ n. f4 ++ words_bytes (1 ∷ 84 ∷ 0x00010000 ∷ 0x00010000 ∷ n ∷ n ∷ 5 ∷ 4 ∷ [])) size in
     let g6 : f6 ≡ f5 ++ words_bytes image.code = e6 ∙ ap (λ l. f5 ++ words_bytes l) ec in
     let g7 : file ≡ f6 ++ image.tables = e7 ∙ ap (λ l. f6 ++ l) et in
     g7 ∙ ap (λ f. f ++ image.tables) (g6 ∙ ap (λ f. f ++ words_bytes image.code)
-      (g5 ∙ ap (λ f. f ++ words_bytes (1 ∷ 84 ∷ 0x00010000 ∷ 0x00010000 ∷ n ∷ n ∷ 5 ∷ 4 ∷ []))
-      (e4 ∙ ap (λ f. f ++ flat_map half_bytes (52 ∷ 32 ∷ 1 ∷ 0 ∷ 0 ∷ 0 ∷ []))
-      (e3 ∙ ap (λ f. f ++ words_bytes (1 ∷ image.entry ∷ 52 ∷ 0 ∷ 0 ∷ []))
-      (e2 ∙ ap (λ f. f ++ flat_map half_bytes (2 ∷ 243 ∷ []))
-      (e1 ∙ ap (λ f. f ++ (0x7F ∷ 0x45 ∷ 0x4C ∷ 0x46 ∷ 1 ∷ 1 ∷ 1 ∷ 0 ∷ 0 ∷ 0 ∷ 0 ∷ 0 ∷ 0 ∷ 0 ∷ 0 ∷ 0 ∷ [])) e0))))))
+    (g5 ∙ ap (λ f. f ++ words_bytes (1 ∷ 84 ∷ 0x00010000 ∷ 0x00010000 ∷ n ∷ n ∷ 5 ∷ 4 ∷ []))
+    (e4 ∙ ap (λ f. f ++ flat_map half_bytes (52 ∷ 32 ∷ 1 ∷ 0 ∷ 0 ∷ 0 ∷ []))
+    (e3 ∙ ap (λ f. f ++ words_bytes (1 ∷ image.entry ∷ 52 ∷ 0 ∷ 0 ∷ []))
+    (e2 ∙ ap (λ f. f ++ flat_map half_bytes (2 ∷ 243 ∷ []))
+    (e1 ∙ ap (λ f. f ++ (0x7F ∷ 0x45 ∷ 0x4C ∷ 0x46 ∷ 1 ∷ 1 ∷ 1 ∷ 0 ∷ 0 ∷ 0 ∷ 0 ∷ 0 ∷ 0 ∷ 0 ∷ 0 ∷ 0 ∷ [])) e0))))))
     ∙ ap (λ n. file_header image.entry ++ program_header n ++ content image) (sym (length_content image))
 
 -- the file of an image is loadable
@@ -129,3 +128,10 @@ pub written_segments : (image : Image) → image.entry ≡ 0x00010000 → 0 < le
 unfolding written
 written_segments image at some fits =
     ap (λ e. segments_of (file_header e ++ program_header (length (content image)) ++ content image)) at ∙ form_segments (content image) some fits
+
+-- how many bytes the file of an image has
+pub length_written : (image : Image) → length (written image) ≡ 84 + (4 * length image.code + length image.tables)
+unfolding written
+length_written image =
+    length-append (file_header image.entry ++ program_header (length (content image))) (content image)
+    ∙ ap (λ n. 84 + n) (length_content image)

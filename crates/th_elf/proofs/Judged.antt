@@ -1,6 +1,5 @@
 -- How the first failing field is found, condition by condition.
-use Rattle.std.proofs.Common.{◌≡◌, ℕ, List, [], ◌∷◌, Option, Some, None, Bool, true, false, not, ◌&&◌, ◌++◌, refl, sym, ◌∙◌, ap, ⊎_elim}
-use Rattle.std.specs.Prelude.{find}
+use Rattle.std.proofs.Common.{◌≡◌, ℕ, List, [], ◌∷◌, Some, None, true, false, ◌&&◌, ◌++◌, refl, sym, ◌∙◌, ap, ⊎_elim}
 use Rattle.std.specs.List.{list_all}
 use Rattle.std.proofs.lemmas.Bool.{and_from, and_left, and_right, cases_Bool, cond-true, cond-false, not_from_true, not_from_false}
 use Rattle.th_elf.specs.declared.error.Field.{Field}
@@ -32,17 +31,17 @@ first_of_some : (file : List ℕ) (fs gs : List Field) (f : Field) → first_of 
 first_of_some file [] gs f is = absurd (cc)
 first_of_some file (x ∷ fs) gs f is =
     ⊎_elim
-      (λ met. passed file x (fs ++ gs) met ∙ first_of_some file fs gs f (sym (passed file x fs met) ∙ is))
-      (λ unmet. failed file x (fs ++ gs) unmet ∙ sym (failed file x fs unmet) ∙ is)
-      (cases_Bool (meets file x))
+    (λ met. passed file x (fs ++ gs) met ∙ first_of_some file fs gs f (sym (passed file x fs met) ∙ is))
+    (λ unmet. failed file x (fs ++ gs) unmet ∙ sym (failed file x fs unmet) ∙ is)
+    (cases_Bool (meets file x))
 
 first_of_none : (file : List ℕ) (fs gs : List Field) → first_of file fs ≡ None → first_of file (fs ++ gs) ≡ first_of file gs
 first_of_none file [] gs is = refl
 first_of_none file (x ∷ fs) gs is =
     ⊎_elim
-      (λ met. passed file x (fs ++ gs) met ∙ first_of_none file fs gs (sym (passed file x fs met) ∙ is))
-      (λ unmet. let wrong : Some x ≡ None = sym (failed file x fs unmet) ∙ is in absurd (cc))
-      (cases_Bool (meets file x))
+    (λ met. passed file x (fs ++ gs) met ∙ first_of_none file fs gs (sym (passed file x fs met) ∙ is))
+    (λ unmet. let wrong : Some x ≡ None = sym (failed file x fs unmet) ∙ is in absurd (cc))
+    (cases_Bool (meets file x))
 
 -- a fault in the header is the first
 pub fault_in_header : (file : List ℕ) (f : Field) → Some f ≡ first_of file header_fields → first_failing file ≡ Some f

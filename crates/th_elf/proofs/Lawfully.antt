@@ -1,6 +1,5 @@
 -- The segments of a loadable file are lawful.
-use Rattle.std.proofs.Common.{◌≡◌, ℕ, ◌+◌, ◌-◌, ◌<◌, ◌≤◌, List, [], ◌∷◌, ◌++◌, length, get_or, take, drop, map, Option, Some, None, Bool, true, false, refl, sym, ◌∙◌, ap, subst, ⊎_elim, lit<, arith}
-use Rattle.std.specs.Prelude.{All, AllPairs}
+use Rattle.std.proofs.Common.{◌≡◌, ℕ, ◌+◌, ◌<◌, ◌≤◌, List, [], ◌∷◌, length, get_or, drop, map, Some, None, true, refl, sym, ◌∙◌, subst, ⊎_elim, lit<, arith}
 use Rattle.std.specs.List.{list_all}
 use Rattle.std.proofs.lemmas.Bool.{and_from, and_parts, cases_Bool, leb-true}
 use Rattle.std.proofs.lemmas.List.{length-map, length-take, get_or-map}
@@ -9,7 +8,7 @@ use Rattle.th_elf.specs.declared.header.Header.{Header}
 use Rattle.th_elf.specs.declared.error.Field.{Field}
 use Rattle.th_elf.specs.declared.error.Field.TheVariants as field
 use Rattle.th_elf.specs.declared.segments.Segment.{Segment}
-use Rattle.th_elf.specs.Loadable.{meets, first_of, first_failing, header_fields, fields, is_placed, are_all_apart, loaded_headers, segment_of, segments_of}
+use Rattle.th_elf.specs.Loadable.{meets, first_of, first_failing, fields, is_placed, are_all_apart, loaded_headers, segment_of, segments_of}
 use Rattle.th_elf.specs.Lawful.{HasAddress, NoneInCommon, AreLawful}
 use Rattle.th_elf.proofs.Judged.{passed, failed}
 use Rattle.th_elf.proofs.Apart.{Apart, all_at, apart_cases, pairs_from}
@@ -19,9 +18,9 @@ all_met : (file : List ℕ) (fs : List Field) → first_of file fs ≡ None → 
 all_met file [] none = refl
 all_met file (f ∷ fs) none =
     ⊎_elim
-      (λ met. and_from _ _ met (all_met file fs (sym (passed file f fs met) ∙ none)))
-      (λ unmet. let wrong : Some f ≡ None = sym (failed file f fs unmet) ∙ none in absurd (cc))
-      (cases_Bool (meets file f))
+    (λ met. and_from _ _ met (all_met file fs (sym (passed file f fs met) ∙ none)))
+    (λ unmet. let wrong : Some f ≡ None = sym (failed file f fs unmet) ∙ none in absurd (cc))
+    (cases_Bool (meets file f))
 
 -- what a loadable file says of its segments
 segments_met : (file : List ℕ) → first_failing file ≡ None → meets file field.Segment ≡ true
@@ -37,10 +36,13 @@ filled file h placed =
     let fits : h.filesz ≤ h.memsz = leb-true _ _ (and_parts _ _ (and_parts _ _ placed).0).0 in
     omega (arith, length-take h.filesz (drop h.offset file))
 
+placed_low : (file : List ℕ) (h : Header) → is_placed file h ≡ true → h.vaddr + h.memsz ≤ 0x08000000
+placed_low file h placed = leb-true _ _ (and_parts _ _ placed).1
+
 low : (file : List ℕ) (h : Header) → is_placed file h ≡ true → (a : ℕ) → HasAddress (segment_of file h) a → a < 0x08000000
 unfolding segment_of
 low file h placed a has =
-    let below : h.vaddr + h.memsz ≤ 0x08000000 = leb-true (h.vaddr + h.memsz) 0x08000000 (and_parts _ _ placed).1 in
+    let below = placed_low file h placed in
     omega arith
 
 none_in_common : (file : List ℕ) (h k : Header) → Apart h k → NoneInCommon (segment_of file h) (segment_of file k)
@@ -52,13 +54,13 @@ lawful_of file hs placed apart = record {
   filled = All-map (λ s. length s.bytes ≤ s.size) (segment_of file) hs (λ k d lt. filled file (get_or hs k d) (all_at (is_placed file) hs k d placed lt));
   low = All-map (λ s. (a : ℕ) → HasAddress s a → a < 0x08000000) (segment_of file) hs (λ k d lt. low file (get_or hs k d) (all_at (is_placed file) hs k d placed lt));
   apart = λ i j d lt below.
-    let lj : j < length hs = subst (λ n. j < n) (length-map hs (segment_of file)) below in
-    let li : i < length hs = omega arith in
-    let h = get_or hs i no_header in
-    let k = get_or hs j no_header in
-    let two : NoneInCommon (segment_of file h) (segment_of file k) = none_in_common file h k (pairs_from hs apart i j no_header lt lj) in
-    let one = subst (λ (s : Segment). NoneInCommon s (segment_of file k)) (sym (get_or-map (segment_of file) hs i no_header d li)) two in
-    subst (λ (s : Segment). NoneInCommon (get_or (map (segment_of file) hs) i d) s) (sym (get_or-map (segment_of file) hs j no_header d lj)) one
+      let lj : j < length hs = subst (λ n. j < n) (length-map hs (segment_of file)) below in
+      let li : i < length hs = omega arith in
+      let h = get_or hs i no_header in
+      let k = get_or hs j no_header in
+      let two : NoneInCommon (segment_of file h) (segment_of file k) = none_in_common file h k (pairs_from hs apart i j no_header lt lj) in
+      let one = subst (λ (s : Segment). NoneInCommon s (segment_of file k)) (sym (get_or-map (segment_of file) hs i no_header d li)) two in
+      subst (λ (s : Segment). NoneInCommon (get_or (map (segment_of file) hs) i d) s) (sym (get_or-map (segment_of file) hs j no_header d lj)) one;
 }
 
 -- the segments of a loadable file are lawful

@@ -4,3 +4,4 @@ pub mod Apart
 pub mod Headers
 pub mod Lawfully
 pub mod Logs
+pub mod Standing

@@ -1,9 +1,9 @@
 -- A run by its log, and the run on an input, are one.
-use Rattle.std.proofs.Common.{◌≡◌, ℕ, zero, suc, ◌+◌, List, [], ◌∷◌, length, Option, Some, None, refl, sym, ◌∙◌, ap, subst, ⊎_elim, add-one}
-use Rattle.th_world.specs.Event.{Event, Put, Took, FoundEnd, Entered}
+use Rattle.std.proofs.Common.{◌≡◌, ℕ, suc, List, [], ◌∷◌, length, Option, sym, ◌∙◌, ap, subst, ⊎_elim, add-one}
+use Rattle.th_world.specs.Event.{Event}
 use Rattle.th_runs.proofs.Steps.{steps_add}
-use Rattle.th_rv.specs.Step.{State, Halt, Act, Next, Puts, Gets, Halts, Traps, step}
-use Rattle.th_elf.specs.Run.{Machine, Status, Running, Stopped, Trapped, Retired, Run, run, run_of, run_step, machine, no_names, after, after_get, while_running, running, with_a0, no_byte, Leads, Got, Did, Retires, Trapping, Takes, TakesOne}
+use Rattle.th_rv.specs.Step.{Act, Next, Puts, Gets, Halts, Traps, step}
+use Rattle.th_elf.specs.Run.{Machine, Running, Retired, Run, run, run_of, run_step, machine, no_names, after, after_get, while_running, running, with_a0, no_byte, Leads, Did, Retires, Trapping, Takes, TakesOne}
 
 -- one more instruction at the end
 pub run_more : (k : ℕ) (r : Run) → run (suc k) r ≡ run_step (run k r)
@@ -16,16 +16,16 @@ leads_after (Puts b s) m left log did later rest leads takes =
     let t : left ≡ rest = subst (λ d. TakesOne left d rest) leads.0 takes in cc
 leads_after (Gets s) m left log did later rest leads takes =
     ⊎_elim
-      (λ (b, small, is, later_is).
-        let t : left ≡ b ∷ rest = subst (λ d. TakesOne left d rest) is takes in
-        ap (after_get (run_of m left log) s) t ∙ cc)
-      (λ (is, later_is).
-        let t : (left ≡ []) × (rest ≡ []) = subst (λ d. TakesOne left d rest) is takes in
-        ap (after_get (run_of m left log) s) t.0
-        ∙ ap (λ d. run_of (running (with_a0 s no_byte)) [] (record { pc = m.state.pc; did = d } ∷ log)) (sym is)
-        ∙ ap (λ x. run_of x [] (record { pc = m.state.pc; did = did } ∷ log)) (sym later_is)
-        ∙ ap (λ r. run_of later r (record { pc = m.state.pc; did = did } ∷ log)) (sym t.1))
-      leads
+    (λ (b, small, is, later_is).
+    let t : left ≡ b ∷ rest = subst (λ d. TakesOne left d rest) is takes in
+    ap (after_get (run_of m left log) s) t ∙ cc)
+    (λ (is, later_is).
+    let t : (left ≡ []) × (rest ≡ []) = subst (λ d. TakesOne left d rest) is takes in
+    ap (after_get (run_of m left log) s) t.0
+    ∙ ap (λ d. run_of (running (with_a0 s no_byte)) [] (record { pc = m.state.pc; did = d } ∷ log)) (sym is)
+    ∙ ap (λ x. run_of x [] (record { pc = m.state.pc; did = did } ∷ log)) (sym later_is)
+    ∙ ap (λ r. run_of later r (record { pc = m.state.pc; did = did } ∷ log)) (sym t.1))
+    leads
 leads_after (Halts h s) m left log did later rest leads takes =
     let t : left ≡ rest = subst (λ d. TakesOne left d rest) leads.0 takes in cc
 leads_after (Traps c) m left log did later rest leads takes = absurd leads
@@ -45,11 +45,11 @@ pub retires_run : (m : Machine) (log : List Retired) (later : Machine) (left res
 retires_run m [] later left rest retires takes = cc
 retires_run m (e ∷ log) later left rest retires takes = last retires takes (retires_run m log)
   where
-  last : (m1 : Machine) × Retires m log m1 × Did m1 e later → (mid : List ℕ) × Takes left log mid × TakesOne mid e.did rest → ((m1 : Machine) (left mid : List ℕ) → Retires m log m1 → Takes left log mid → run (length log) (run_of m left []) ≡ run_of m1 mid log) → run (suc (length log)) (run_of m left []) ≡ run_of later rest (e ∷ log)
-  last (m1, before, did) (mid, took, takes) again =
-    run_more (length log) (run_of m left [])
-    ∙ ap run_step (again m1 left mid before took)
-    ∙ one_more m1 e later mid rest log did takes
+    last : (m1 : Machine) × Retires m log m1 × Did m1 e later → (mid : List ℕ) × Takes left log mid × TakesOne mid e.did rest → ((m1 : Machine) (left mid : List ℕ) → Retires m log m1 → Takes left log mid → run (length log) (run_of m left []) ≡ run_of m1 mid log) → run (suc (length log)) (run_of m left []) ≡ run_of later rest (e ∷ log)
+    last (m1, before, did) (mid, took, takes) again =
+        run_more (length log) (run_of m left [])
+        ∙ ap run_step (again m1 left mid before took)
+        ∙ one_more m1 e later mid rest log did takes
 
 -- a machine that then traps is what the run is after one more step, which retires nothing
 pub trapping_run : (m : Machine) (log : List Retired) (m1 later : Machine) (left rest : List ℕ) → Retires m log m1 → Trapping m1 later → Takes left log rest → run (suc (length log)) (run_of m left []) ≡ run_of later rest log

@@ -1,4 +1,5 @@
 pub mod Written
+pub mod Named
 pub mod Loadable
 pub mod Rising
 pub mod Lawful

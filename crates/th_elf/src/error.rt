@@ -1,5 +1,6 @@
 //! Why a file can't be read.
 ghost use Rattle.std.specs.Prelude.{◌≡◌};
+ghost use Rattle.th_elf.specs.Named.{name_of};
 ghost use Rattle.th_elf.specs.declared.error.ElfError.TheVariants.{Memory};
 
 use std::alloc::AllocError;
@@ -30,11 +31,31 @@ pub enum Field {
     Segment,
 }
 
+impl Field {
+    /// The field's name in a report: one word in small letters.
+    pub fn name(self) -> &'static str
+        ensures { result.now ≡ name_of self }
+    {
+        match self {
+            Field::Length => "length",
+            Field::Magic => "magic",
+            Field::Class => "class",
+            Field::Order => "order",
+            Field::Version => "version",
+            Field::Kind => "kind",
+            Field::Machine => "machine",
+            Field::Flags => "flags",
+            Field::Entries => "entries",
+            Field::Segment => "segment",
+        }
+    }
+}
+
 /// Why a file can't be read.
 #[derive(Debug, Drop, Error)]
 pub enum ElfError {
     /// The first condition that the file doesn't meet.
-    #[error("bad elf {0:?}")]
+    #[error("bad elf {}", .0.name())]
     BadElf(Field),
     /// There is no memory for the segments.
     #[error("out of memory")]

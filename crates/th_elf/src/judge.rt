@@ -12,6 +12,7 @@ use std::alloc::{AllocError, Global};
 
 /// How many bytes the file header has, and a program header.
 const FILE_HEADER: usize = 52;
+
 const PROGRAM_HEADER: usize = 32;
 
 /// The type of a program header whose segment is loaded.

@@ -1,6 +1,7 @@
 //! Files of any maker, read as segments.
-ghost use Rattle.std.specs.Prelude.{◌≡◌, ◌^◌, ◌≤◌, None, true, map, length, IfOk, IfErr};
+ghost use Rattle.std.specs.Prelude.{◌≡◌, None, true, map, IfOk, IfErr};
 ghost use Rattle.std.specs.List.{list_all};
+ghost use Rattle.th_elf.specs.Lawful.{AreLawful};
 ghost use Rattle.th_elf.specs.Loadable.{Refuses, first_failing, is_placed, lies_in, segment_of, segments_of};
 
 use crate::error::{ElfError, Field};
@@ -27,11 +28,7 @@ fn segment_of(alloc: Global, file: &[u8], header: &Header) -> Result<Segment, Al
 }
 
 /// What the segments of program headers are loaded as.
-fn segments_of(
-    alloc: Global,
-    file: &[u8],
-    headers: &[Header],
-) -> Result<Vec<Segment>, AllocError>
+fn segments_of(alloc: Global, file: &[u8], headers: &[Header]) -> Result<Vec<Segment>, AllocError>
     requires { list_all (is_placed file.now) headers.now ≡ true }
     ensures { IfOk result (λ segments. segments.items ≡ map (segment_of file.now) headers.now) }
 {
@@ -48,9 +45,9 @@ fn segments_of(
 /// The error is `BadElf` with the first condition that the file doesn't meet, exactly where it isn't loadable, and
 /// `Memory` for want of memory.
 pub fn read_elf(alloc: Global, bytes: &[u8]) -> Result<Segments, ElfError>
-    requires { length bytes.now ≤ 1073741824 }
     ensures loadable { IfOk result (λ segments. first_failing bytes.now ≡ None) }
     ensures ok { IfOk result (λ segments. segments ≡ segments_of bytes.now) }
+    ensures lawful { IfOk result (λ segments. AreLawful segments.list) }
     ensures refused { IfErr result (λ error. Refuses bytes.now error) }
 {
     if let Some(field) = header_fault(bytes) {
