@@ -1,10 +1,11 @@
 -- A run that came to an end stays as it is, and traces only grow.
-use Rattle.std.proofs.Common.{◌≡◌, ◌≢◌, ℕ, List, [], ◌∷◌, ◌++◌, Option, Some, None, refl}
+use Rattle.std.proofs.Common.{◌≡◌, ◌≢◌, ℕ, zero, suc, List, [], ◌∷◌, ◌++◌, Option, Some, None, refl, ap}
 use Rattle.std.specs.Prelude.{option_to_list}
 use Rattle.th_world.specs.Event.{Put, Took, FoundEnd, Prefix}
 use Rattle.th_runs.specs.Stand as ends
+use Rattle.th_runs.specs.Runs as runs
 use Rattle.th_rv.specs.Step.{State, Act, Next, Puts, Gets, Halts, Traps, step}
-use Rattle.th_elf.specs.Run.{Status, Running, Stopped, Trapped, Retired, Run, run_step, after, after_get, while_running, end_of, entry_of, trace, stand}
+use Rattle.th_elf.specs.Run.{Status, Running, Stopped, Trapped, Retired, Run, run_step, after, after_get, while_running, end_of, entry_of, trace, stand, machine, run}
 
 stays_at : (s : Status) (on r : Run) → end_of r.state s ≢ ends.GoesOn → while_running s on r ≡ r
 stays_at Running on r ended = absurd (ended refl)
@@ -39,3 +40,13 @@ grows_at names (Trapped c pc) on r grows = record { more = []; is = refl }
 pub run_grows : (names : ℕ → Option (List ℕ)) (r : Run) → Prefix (stand names r).trace (stand names (run_step r)).trace
 unfolding stand run_step
 run_grows names r = grows_at names r.status (after r (step r.state)) r (grows_after names r (step r.state))
+
+-- names change nothing of what a run does
+pub run_with_names : (names : ℕ → Option (List ℕ)) (k : ℕ) (r : Run) → runs.steps (machine names) k r ≡ run k r
+run_with_names names zero r = refl
+run_with_names names (suc k) r = run_with_names names k (run_step r)
+
+-- a run's stand after so many steps, by the general word for a machine's run
+pub stand_of_run : (names : ℕ → Option (List ℕ)) (k : ℕ) (r : Run) → runs.machine_run (machine names) k r ≡ stand names (run k r)
+unfolding stand
+stand_of_run names k r = ap (λ x. stand names x) (run_with_names names k r)
