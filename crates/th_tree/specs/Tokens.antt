@@ -1,5 +1,5 @@
 -- Which bytes are a token, and of which kind.
-use Rattle.std.specs.Prelude.{◌≡◌, ℕ, ◌+◌, ◌*◌, ◌-◌, ◌≤◌, Bool, true, false, ◌&&◌, ◌||◌, nat_eq, nat_le, List, [], ◌∷◌, ◌++◌, Option, Some, None, if◌then◌else◌, codes}
+use Rattle.std.specs.Prelude.{ℕ, ◌+◌, ◌*◌, ◌-◌, Bool, true, false, ◌&&◌, ◌||◌, nat_eq, nat_le, List, [], ◌∷◌, length, Option, Some, None, if◌then◌else◌, codes}
 use Rattle.std.specs.Str.{bytes_eq}
 use Rattle.th_tree.specs.declared.tokens.Reserved.{Reserved}
 use Rattle.th_tree.specs.declared.tokens.Reserved.TheVariants.{KeyModule, KeyInterface, KeyImplements, KeyUses, KeyType, KeyClass, KeyFor, KeyInherits, KeyWhere, KeyHas, KeyException, KeyRoutine, KeyIter, KeyInit, KeyHidden, KeyField, KeyReturns, KeyYields, KeySignals, KeyVar, KeyIf, KeyThen, KeyElseif, KeyElse, KeyEnd, KeyWhile, KeyDo, KeyIn, KeyBreak, KeyReturn, KeyYield, KeyRaise, KeyBegin, KeyExcept, KeyWhen, KeyNew, KeyArray, KeyInt, KeyBool, KeyTrue, KeyFalse, KeySelf, KeySuper, KeyOr, KeyAnd, KeyNot, KeyLength, KeyPutByte, KeyPutInt, KeyGetByte, KeyOverflow, KeyZeroDivide, KeyBounds, KeyEndOfInput, KeyString, KeyPutString}
@@ -158,11 +158,16 @@ abbrev pub value : ℕ → List ℕ → ℕ
 value n [] = n
 value n (b ∷ bs) = value (n * 10 + (b - 48)) bs
 
--- what follows the opening quote of a literal: plain bytes and escapes, and the closing quote at the very end
-abbrev pub closes : List ℕ → Bool
-closes [] = false
-closes (b ∷ []) = nat_eq b 34
-closes (b ∷ c ∷ bs) = if nat_eq b 92 then is_escape c && closes bs else is_plain b && closes (c ∷ bs)
+abbrev mutual
+  -- what follows the opening quote of a literal: plain bytes and escapes, and the closing quote at the very end
+  pub closes : List ℕ → Bool
+  closes [] = false
+  closes (b ∷ bs) = if nat_eq b 34 then nat_eq (length bs) 0 else (if nat_eq b 92 then escape_closes bs else is_plain b && closes bs)
+
+  -- the same after a backslash
+  pub escape_closes : List ℕ → Bool
+  escape_closes [] = false
+  escape_closes (c ∷ bs) = is_escape c && closes bs
 
 -- a name, unless it is a reserved word
 abbrev pub word_kind : Option Reserved → TokenKind
