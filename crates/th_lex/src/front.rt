@@ -1,5 +1,6 @@
 //! What stands at the front of a text.
-ghost use Rattle.std.specs.Prelude.{◌≡◌, ◌<◌, ◌≤◌, length, drop, slice_index, if◌then◌else◌, Some, None, prefix_len};
+ghost use Rattle.std.specs.Prelude.{◌≡◌, ◌<◌, ◌≤◌, length, drop, slice_index, Some, None, true, false};
+ghost use Rattle.std.specs.List.{prefix_len};
 ghost use Rattle.th_tree.specs.Tokens as tokens;
 ghost use Rattle.th_tree.specs.Cut.{in_line};
 ghost use Rattle.th_lex.specs.Stands.{Stands, decimal_of, quoted};
@@ -50,13 +51,27 @@ fn comment_len(text: &[u8]) -> usize
     text.iter().take_while(|byte| **byte != b'\n').count()
 }
 
+/// How many bytes from the front on may stand in a name after its first.
+fn inner_len(text: &[u8]) -> usize
+    ensures { result ≡ prefix_len tokens.is_inner text.now }
+{
+    text.iter().take_while(|byte| is_inner(**byte)).count()
+}
+
+/// How many bytes from the front on are digits.
+fn digits_len(text: &[u8]) -> usize
+    ensures { result ≡ prefix_len tokens.is_digit text.now }
+{
+    text.iter().take_while(|byte| is_digit(**byte)).count()
+}
+
 /// The name or reserved word at the front.
 fn word(text: &[u8]) -> Item
     requires some { 0 < length text.now }
     requires letter { tokens.is_letter (slice_index text.now 0) ≡ true }
     ensures { Stands text.now result }
 {
-    let len = text.iter().take_while(|byte| is_inner(**byte)).count();
+    let len = inner_len(text);
     match reserved(&text[..len]) {
         Some(word) => Item::Token(TokenKind::Word(word), len),
         None => Item::Token(TokenKind::Name, len),
@@ -70,7 +85,7 @@ fn number(text: &[u8]) -> Item
     requires digit { tokens.is_digit (slice_index text.now 0) ≡ true }
     ensures { Stands text.now result }
 {
-    let len = text.iter().take_while(|byte| is_digit(**byte)).count();
+    let len = digits_len(text);
     match decimal(&text[..len]) {
         Some(value) => Item::Token(TokenKind::Number(value), len),
         None => Item::WideNumber,
