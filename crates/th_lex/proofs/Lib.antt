@@ -4,3 +4,5 @@ pub mod Right
 pub mod Quotes
 pub mod Signs
 pub mod Values
+pub mod Gaps
+pub mod Unique

@@ -135,9 +135,9 @@ is_inner b = is_letter b || (is_digit b || nat_eq b 95)
 abbrev pub is_blank : ℕ → Bool
 is_blank b = nat_eq b 32 || (nat_eq b 9 || (nat_eq b 10 || nat_eq b 13))
 
--- a byte that stands for itself in a literal: 32 to 126, neither `"` nor a backslash
-abbrev pub is_plain : ℕ → Bool
-is_plain b = within 32 126 b && (if nat_eq b 34 || nat_eq b 92 then false else true)
+-- a byte of printed text, 32 to 126
+abbrev pub is_printed : ℕ → Bool
+is_printed b = within 32 126 b
 
 -- n, `"` or a backslash, which may follow a backslash
 abbrev pub is_escape : ℕ → Bool
@@ -159,10 +159,10 @@ value n [] = n
 value n (b ∷ bs) = value (n * 10 + (b - 48)) bs
 
 abbrev mutual
-  -- what follows the opening quote of a literal: plain bytes and escapes, and the closing quote at the very end
+  -- what follows the opening quote of a literal: printed bytes and escapes, and a quote at the very end, where the only quotes and backslashes before it are in escapes
   pub closes : List ℕ → Bool
   closes [] = false
-  closes (b ∷ bs) = if nat_eq b 34 then nat_eq (length bs) 0 else (if nat_eq b 92 then escape_closes bs else is_plain b && closes bs)
+  closes (b ∷ bs) = if nat_eq b 34 then nat_eq (length bs) 0 else (if nat_eq b 92 then escape_closes bs else is_printed b && closes bs)
 
   -- the same after a backslash
   pub escape_closes : List ℕ → Bool
