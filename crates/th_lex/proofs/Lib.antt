@@ -6,3 +6,4 @@ pub mod Signs
 pub mod Values
 pub mod Gaps
 pub mod Unique
+pub mod Steps

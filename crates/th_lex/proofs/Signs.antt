@@ -74,7 +74,7 @@ pair_at b c bs s o e = record {
 -- where no two bytes are a symbol, a token has one byte
 short : (b : ℕ) (bs tail rest : List ℕ) (j : TokenKind) → Other b → bs ≡ tail ++ rest → ((c : ℕ) (more : List ℕ) → bs ≡ c ∷ more → symbol_of (b ∷ c ∷ []) ≡ None) → kind_of (b ∷ tail) ≡ Some j → tail ≡ []
 short b bs [] rest j o e h k = refl
-short b bs (c ∷ []) rest j o e h k = let s = some_symbol _ j (other_kind b (c ∷ []) j o k) in let n = h c rest e in let i = s.1 in cc (sym n ∙ i)
+short b bs (c ∷ []) rest j o e h k = let s = some_symbol (symbol_of (b ∷ c ∷ [])) j (other_kind b (c ∷ []) j o k) in let n : None ≡ Some s.0 = sym (h c rest e) ∙ s.1 in absurd (cc)
 short b bs (c ∷ d ∷ ds) rest j o e h k = let l : length (b ∷ c ∷ d ∷ ds) ≤ 2 = at_most_two b (c ∷ d ∷ ds) j o k in absurd (omega arith)
 
 pub single_at : (b : ℕ) (bs : List ℕ) (s : Sym) → Other b → ((c : ℕ) (more : List ℕ) → bs ≡ c ∷ more → symbol_of (b ∷ c ∷ []) ≡ None) → symbol_of (b ∷ []) ≡ Some s → Longest (b ∷ bs) (b ∷ []) bs (Symbol s)
@@ -95,7 +95,7 @@ none_at b bs o h e = record {
     let t = tail_of b bs cs rest j k in
     let z : t.tail ≡ [] = short b bs t.tail rest j o t.split h t.kind in
     let i : kind_of (b ∷ []) ≡ Some j = subst (λ x. kind_of (b ∷ x) ≡ Some j) z t.kind in
-    let s = some_symbol _ j (other_kind b [] j o i) in let n = s.1 in cc (sym e ∙ n);
+    let s = some_symbol (symbol_of (b ∷ [])) j (other_kind b [] j o i) in let n : None ≡ Some s.0 = sym e ∙ s.1 in absurd (cc);
   no_number = λ w. (let y = o.no_digit in cc (sym y ∙ wide_first (b ∷ bs) w))
 }
 

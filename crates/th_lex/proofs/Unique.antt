@@ -105,9 +105,68 @@ pub record Same (to too : ℕ) (ts us : List Token) (f g : Stop) : Type 0 where
   pub tokens : ts ≡ us
   pub stop : f ≡ g
 
+abbrev tok : TokenKind → ℕ → ℕ → Token
+tok k s e = record { kind = k; start = s; end = e }
+
 -- what two cuttings that stop have in common
 module _ (to too : ℕ) (rest left : List ℕ) (f g : Stop) (x : Stops f rest) (y : Stops g left) where
+  end_by : (us : List Token) → Ends too left to rest us ⊎ (PastGap too left to rest us ⊎ PastToken too left to rest us) → Same to too [] us f g
+  end_by us (inl e) = record { place = sym e.place; tokens = sym e.none; stop = same_stop f g rest x (subst (Stops g) e.left y) }
+  end_by us (inr (inl p)) = absurd (stop_no_gap f rest p.more p.size x p.is)
+  end_by us (inr (inr p)) = absurd (stop_no_token f rest p.bytes p.more p.kind x p.is.token)
+
+  gap_by : (at : ℕ) (text more : List ℕ) (n : ℕ) (ts us : List Token) → Gap more text n → ((vs : List Token) → CutTo too left (at + n) more vs → Same to too ts vs f g)
+      → Ends too left at text us ⊎ (PastGap too left at text us ⊎ PastToken too left at text us) → Same to too ts us f g
+  gap_by at text more n ts us i go (inl e) = absurd (stop_no_gap g text more n (subst (Stops g) e.left y) i)
+  gap_by at text more n ts us i go (inr (inl p)) =
+      let s = same_gap text more p.more n p.size i p.is in
+      go us (subst (λ q. CutTo too left (at + q) more us) (sym s.1) (subst (λ m. CutTo too left (at + p.size) m us) (sym s.0) p.on))
+  gap_by at text more n ts us i go (inr (inr p)) = absurd (gap_no_token i p.bytes p.more p.kind p.is.token)
+
+  token_by : (at : ℕ) (text bs more : List ℕ) (k : TokenKind) (ts us : List Token) → Longest text bs more k → ((vs : List Token) → CutTo too left (at + length bs) more vs → Same to too ts vs f g)
+      → Ends too left at text us ⊎ (PastGap too left at text us ⊎ PastToken too left at text us) → Same to too (tok k at (at + length bs) ∷ ts) us f g
+  token_by at text bs more k ts us l go (inl e) = absurd (stop_no_token g text bs more k (subst (Stops g) e.left y) l.token)
+  token_by at text bs more k ts us l go (inr (inl p)) = absurd (gap_no_token p.is bs more k l.token)
+  token_by at text bs more k ts us l go (inr (inr p)) =
+      let s = same_token text bs p.bytes more p.more k p.kind l p.is in
+      let r = go p.others (subst (λ q. CutTo too left (at + length q) more p.others) (sym s.0) (subst (λ m. CutTo too left (at + length p.bytes) m p.others) (sym s.1) p.on)) in
+      let t1 : tok k at (at + length bs) ∷ ts ≡ tok p.kind at (at + length bs) ∷ ts = ap (λ q. tok q at (at + length bs) ∷ ts) s.2 in
+      let t2 : tok p.kind at (at + length bs) ∷ ts ≡ tok p.kind at (at + length p.bytes) ∷ ts = ap (λ q. tok p.kind at (at + length q) ∷ ts) s.0 in
+      let t3 : tok p.kind at (at + length p.bytes) ∷ ts ≡ tok p.kind at (at + length p.bytes) ∷ p.others = ap (λ q. tok p.kind at (at + length p.bytes) ∷ q) r.tokens in
+      record { place = r.place; tokens = t1 ∙ t2 ∙ t3 ∙ sym p.list; stop = r.stop }
+
   pub same : {at : ℕ} {text : List ℕ} {ts : List Token} → CutTo to rest at text ts → (us : List Token) → CutTo too left at text us → Same to too ts us f g
-  same there = λ us e. ?
-  same (gap at text more n i d) = λ us e. ?
-  same (token {ts = ts} at text bs more k l d) = λ us e. ?
+  same there = λ us e. end_by us (view e)
+  same (gap {ts = ts} at text more n i d) = λ us e. gap_by at text more n ts us i (same d) (view e)
+  same (token {ts = ts} at text bs more k l d) = λ us e. token_by at text bs more k ts us l (same d) (view e)
+
+-- the verdict of a cutting that stops
+abbrev verdict : Stop → ℕ → List Token → Verdict
+verdict AtEnd to ts = Cuts ts
+verdict AtBad to ts = Bad to
+verdict AtWide to ts = Wide to
+
+record Reached (text : List ℕ) (v : Verdict) : Type 0 where
+  to : ℕ
+  rest : List ℕ
+  list : List Token
+  stop : Stop
+  cut : CutTo to rest 0 text list
+  stops : Stops stop rest
+  gives : v ≡ verdict stop to list
+
+reached : (text : List ℕ) (v : Verdict) → HasVerdict text v → Reached text v
+reached text (Cuts ts) h = record { to = length text; rest = []; list = ts; stop = AtEnd; cut = h; stops = refl; gives = refl }
+reached text (Bad p) h = record { to = p; rest = h.0; list = h.1; stop = AtBad; cut = h.2; stops = h.3; gives = refl }
+reached text (Wide p) h = record { to = p; rest = h.0; list = h.1; stop = AtWide; cut = h.2; stops = h.3; gives = refl }
+
+-- a text has one verdict at most
+pub one_verdict : (text : List ℕ) (v w : Verdict) → HasVerdict text v → HasVerdict text w → w ≡ v
+one_verdict text v w h i =
+    let a = reached text v h in
+    let b = reached text w i in
+    let s = same a.to b.to a.rest b.rest a.stop b.stop a.stops b.stops a.cut b.list b.cut in
+    let e1 : verdict a.stop a.to a.list ≡ verdict b.stop a.to a.list = ap (λ q. verdict q a.to a.list) s.stop in
+    let e2 : verdict b.stop a.to a.list ≡ verdict b.stop b.to a.list = ap (λ q. verdict b.stop q a.list) s.place in
+    let e3 : verdict b.stop b.to a.list ≡ verdict b.stop b.to b.list = ap (λ q. verdict b.stop b.to q) s.tokens in
+    sym (a.gives ∙ e1 ∙ e2 ∙ e3 ∙ sym b.gives)

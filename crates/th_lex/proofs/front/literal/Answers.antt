@@ -1,4 +1,4 @@
-use Rattle.std.proofs.Common.{sym, arith}
+use Rattle.std.proofs.Common.{sym, rules}
 use Rattle.th_lex.proofs.Quotes.{literal_stands, literal_bad}
 use Rattle.th_lex.proofs.front.literal.Goals as goal
 
