@@ -1,5 +1,5 @@
 -- Gaps: no token begins with one, and at most one gap stands at a place.
-use Rattle.std.proofs.Common.{◌≡◌, ℕ, zero, suc, ◌+◌, ◌≤◌, ◌<◌, Bool, true, false, if◌then◌else◌, ◌&&◌, ◌||◌, nat_eq, nat_le, List, [], ◌∷◌, ◌++◌, length, slice_index, Option, Some, None, refl, sym, ◌∙◌, ap, subst, arith, length-append, ◌⊎◌, inl, inr}
+use Rattle.std.proofs.Common.{◌≡◌, ℕ, ◌+◌, ◌≤◌, ◌<◌, Bool, true, false, ◌||◌, nat_eq, nat_le, List, [], ◌∷◌, ◌++◌, length, slice_index, Some, refl, sym, ◌∙◌, ap, subst, arith, length-append, ◌⊎◌, inl, inr}
 use Rattle.std.proofs.lemmas.Bool.{eqb-true, lt-leb, leb-true}
 use Rattle.th_tree.specs.declared.tokens.Sym.{Sym}
 use Rattle.th_tree.specs.declared.tokens.Sym.TheVariants.{OpenParen}
@@ -7,7 +7,7 @@ use Rattle.th_tree.specs.declared.tokens.TokenKind.{TokenKind}
 use Rattle.th_tree.specs.Tokens.{is_letter, is_digit, is_blank, all, begins, value, sign, symbol_of, symbol_kind, kind_of}
 use Rattle.th_tree.specs.Cut.{TokenAt, Gap, blank, comment, in_line, WideNumber}
 use Rattle.th_lex.proofs.Fronts.{and_left, and_right, front, back, front_exact, back_exact}
-use Rattle.th_lex.proofs.Right.{Tail, tail_of, digits}
+use Rattle.th_lex.proofs.Right.{tail_of, digits}
 use Rattle.th_lex.proofs.Signs.{some_symbol, symbol_is}
 use Rattle.th_lex.proofs.Quotes.{wide_first}
 

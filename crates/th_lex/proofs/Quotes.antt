@@ -1,14 +1,14 @@
 -- String literals.
-use Rattle.std.proofs.Common.{◌≡◌, ℕ, zero, suc, ◌+◌, ◌≤◌, ◌<◌, Bool, true, false, if◌then◌else◌, ◌&&◌, ◌||◌, nat_eq, nat_le, List, [], ◌∷◌, ◌++◌, length, take, drop, slice_index, Option, Some, None, refl, sym, ◌∙◌, ap, subst, arith, length-append, ◌⊎◌, inl, inr, ◌-◌}
+use Rattle.std.proofs.Common.{◌≡◌, ℕ, suc, ◌+◌, ◌≤◌, ◌<◌, Bool, true, false, if◌then◌else◌, ◌&&◌, nat_eq, List, [], ◌∷◌, ◌++◌, length, take, drop, slice_index, Option, Some, None, refl, sym, ◌∙◌, ap, subst, arith, ◌⊎◌, inl, inr, ◌-◌}
 use Rattle.std.proofs.Math.Seq.{take-length}
 use Rattle.std.proofs.lemmas.Bool.{eqb-true}
 use Rattle.th_tree.specs.declared.tokens.TokenKind.{TokenKind}
-use Rattle.th_tree.specs.declared.tokens.TokenKind.TheVariants.{Name, Word, Number, Symbol, Text}
-use Rattle.th_tree.specs.Tokens.{is_letter, is_digit, is_inner, is_blank, is_printed, is_escape, all, value, closes, escape_closes, kind_of, begins}
-use Rattle.th_tree.specs.Cut.{MayFollow, TokenAt, Longest, Gap, blank, comment, in_line, WideNumber, BadByte}
+use Rattle.th_tree.specs.declared.tokens.TokenKind.TheVariants.{Text}
+use Rattle.th_tree.specs.Tokens.{is_digit, is_blank, is_printed, is_escape, all, closes, escape_closes, kind_of}
+use Rattle.th_tree.specs.Cut.{Longest, Gap, blank, comment, WideNumber, BadByte}
 use Rattle.th_lex.specs.Stands.{further, quoted, escaped}
-use Rattle.th_lex.proofs.Fronts.{and_left, and_right, take_here, drop_here}
-use Rattle.th_lex.proofs.Right.{longest_here, Tail, tail_of, chosen_some}
+use Rattle.th_lex.proofs.Fronts.{and_left}
+use Rattle.th_lex.proofs.Right.{longest_here, tail_of, chosen_some}
 
 -- a closing quote ends n bytes
 pub record Closed (f : List ℕ → Bool) (bs : List ℕ) (n : ℕ) : Type 0 where
@@ -97,13 +97,13 @@ literal_at bs n e =
     longest_here (34 ∷ bs) (34 ∷ c.front) c.rest (1 + n) Text size (record {
       token = record { split = ap (λ x. 34 ∷ x) c.split; is = rw (c.closed) refl; ends = tt };
       longest = λ cs rest j h.
-        let t = tail_of 34 bs cs rest j h in
-        let q : quoted (t.tail ++ rest) ≡ Some (length t.tail) = closes_quoted t.tail rest (quote_kind t.tail j t.kind).0 in
-        let r : quoted bs ≡ Some (length t.tail) = subst (λ x. quoted x ≡ Some (length t.tail)) (sym t.split) q in
-        let l : Some n ≡ Some (length t.tail) = sym e ∙ r in
-        let m : n ≡ length t.tail = cc in
-        let w : length cs ≡ suc (length t.tail) = ap length t.is in
-        let z = c.size in omega arith
+          let t = tail_of 34 bs cs rest j h in
+          let q : quoted (t.tail ++ rest) ≡ Some (length t.tail) = closes_quoted t.tail rest (quote_kind t.tail j t.kind).0 in
+          let r : quoted bs ≡ Some (length t.tail) = subst (λ x. quoted x ≡ Some (length t.tail)) (sym t.split) q in
+          let l : Some n ≡ Some (length t.tail) = sym e ∙ r in
+          let m : n ≡ length t.tail = cc in
+          let w : length cs ≡ suc (length t.tail) = ap length t.is in
+          let z = c.size in omega arith;
     })
 
 pub literal_stands : (text : List ℕ) (n : ℕ) → 0 < length text → slice_index text 0 ≡ 34 → quoted (take (length text - 1) (drop 1 text)) ≡ Some n
@@ -131,10 +131,10 @@ literal_none bs e = record {
   some = omega arith;
   no_gap = λ more n g. elim (gap_first (34 ∷ bs) more n g) [ inl h ↦ cc | inr h ↦ absurd (omega arith) ];
   no_token = λ cs rest j h.
-    let t = tail_of 34 bs cs rest j h in
-    let q : quoted (t.tail ++ rest) ≡ Some (length t.tail) = closes_quoted t.tail rest (quote_kind t.tail j t.kind).0 in
-    let r : quoted bs ≡ Some (length t.tail) = subst (λ x. quoted x ≡ Some (length t.tail)) (sym t.split) q in cc (sym e ∙ r);
-  no_number = λ w. cc (wide_first (34 ∷ bs) w)
+      let t = tail_of 34 bs cs rest j h in
+      let q : quoted (t.tail ++ rest) ≡ Some (length t.tail) = closes_quoted t.tail rest (quote_kind t.tail j t.kind).0 in
+      let r : quoted bs ≡ Some (length t.tail) = subst (λ x. quoted x ≡ Some (length t.tail)) (sym t.split) q in cc (sym e ∙ r);
+  no_number = λ w. cc (wide_first (34 ∷ bs) w);
 }
 
 pub literal_bad : (text : List ℕ) → 0 < length text → slice_index text 0 ≡ 34 → quoted (take (length text - 1) (drop 1 text)) ≡ None → BadByte text

@@ -1,17 +1,17 @@
 -- Symbols.
-use Rattle.std.proofs.Common.{◌≡◌, ◌≢◌, ℕ, zero, suc, ◌+◌, ◌≤◌, ◌<◌, Bool, true, false, if◌then◌else◌, ◌&&◌, ◌||◌, nat_eq, nat_le, List, [], ◌∷◌, ◌++◌, length, take, drop, slice_index, Option, Some, None, refl, sym, ◌∙◌, ap, subst, arith, ◌⊎◌, inl, inr}
+use Rattle.std.proofs.Common.{◌≡◌, ℕ, zero, suc, ◌≤◌, ◌<◌, Bool, true, false, if◌then◌else◌, nat_eq, List, [], ◌∷◌, ◌++◌, length, take, drop, slice_index, Option, Some, None, refl, sym, ◌∙◌, ap, subst, arith, inl, inr}
 use Rattle.std.proofs.lemmas.Bool.{eqb-true}
 use Rattle.std.specs.Str.{bytes_eq}
 use Rattle.std.proofs.lemmas.Slice.Eq.{bytes_eq-Decides}
 use Rattle.th_tree.specs.declared.tokens.Sym.{Sym}
 use Rattle.th_tree.specs.declared.tokens.Sym.TheVariants.{OpenParen}
 use Rattle.th_tree.specs.declared.tokens.TokenKind.{TokenKind}
-use Rattle.th_tree.specs.declared.tokens.TokenKind.TheVariants.{Name, Word, Number, Symbol, Text}
-use Rattle.th_tree.specs.Tokens.{is_letter, is_digit, is_blank, all, sign, all_symbols, written_as, symbol_of, symbol_kind, kind_of, closes}
-use Rattle.th_tree.specs.Cut.{MayFollow, TokenAt, Longest, Gap, WideNumber, BadByte}
+use Rattle.th_tree.specs.declared.tokens.TokenKind.TheVariants.{Symbol}
+use Rattle.th_tree.specs.Tokens.{is_letter, is_digit, is_blank, sign, all_symbols, written_as, symbol_of, symbol_kind, kind_of}
+use Rattle.th_tree.specs.Cut.{TokenAt, Longest, BadByte}
 use Rattle.th_lex.specs.ByLength.{symbols_of}
 use Rattle.th_lex.proofs.ByLength.{symbol_by_length}
-use Rattle.th_lex.proofs.Right.{longest_here, Tail, tail_of}
+use Rattle.th_lex.proofs.Right.{longest_here, tail_of}
 use Rattle.th_lex.proofs.Quotes.{gap_first, wide_first}
 
 sign_lengths : (s : Sym) → (1 ≤ length (sign s)) × (length (sign s) ≤ 2)
@@ -66,9 +66,9 @@ pub pair_at : (b c : ℕ) (bs : List ℕ) (s : Sym) → Other b → symbol_of (b
 pair_at b c bs s o e = record {
   token = symbol_token b (c ∷ []) bs s o e;
   longest = λ cs rest j h.
-    let t = tail_of b (c ∷ bs) cs rest j h in
-    let z : length (b ∷ t.tail) ≤ 2 = at_most_two b t.tail j o t.kind in
-    let w : length cs ≡ suc (length t.tail) = ap length t.is in omega arith
+      let t = tail_of b (c ∷ bs) cs rest j h in
+      let z : length (b ∷ t.tail) ≤ 2 = at_most_two b t.tail j o t.kind in
+      let w : length cs ≡ suc (length t.tail) = ap length t.is in omega arith;
 }
 
 -- where no two bytes are a symbol, a token has one byte
@@ -81,10 +81,10 @@ pub single_at : (b : ℕ) (bs : List ℕ) (s : Sym) → Other b → ((c : ℕ) (
 single_at b bs s o h e = record {
   token = symbol_token b [] bs s o e;
   longest = λ cs rest j k.
-    let t = tail_of b bs cs rest j k in
-    let z : t.tail ≡ [] = short b bs t.tail rest j o t.split h t.kind in
-    let w : cs ≡ b ∷ [] = t.is ∙ ap (λ x. b ∷ x) z in
-    let y : length cs ≡ 1 = ap length w in omega arith
+      let t = tail_of b bs cs rest j k in
+      let z : t.tail ≡ [] = short b bs t.tail rest j o t.split h t.kind in
+      let w : cs ≡ b ∷ [] = t.is ∙ ap (λ x. b ∷ x) z in
+      let y : length cs ≡ 1 = ap length w in omega arith;
 }
 
 pub none_at : (b : ℕ) (bs : List ℕ) → Other b → ((c : ℕ) (more : List ℕ) → bs ≡ c ∷ more → symbol_of (b ∷ c ∷ []) ≡ None) → symbol_of (b ∷ []) ≡ None → BadByte (b ∷ bs)
@@ -92,11 +92,11 @@ none_at b bs o h e = record {
   some = omega arith;
   no_gap = λ more n g. elim (gap_first (b ∷ bs) more n g) [ inl x ↦ (let y = o.no_blank in cc (sym x ∙ y)) | inr x ↦ o.no_comment x ];
   no_token = λ cs rest j k.
-    let t = tail_of b bs cs rest j k in
-    let z : t.tail ≡ [] = short b bs t.tail rest j o t.split h t.kind in
-    let i : kind_of (b ∷ []) ≡ Some j = subst (λ x. kind_of (b ∷ x) ≡ Some j) z t.kind in
-    let s = some_symbol (symbol_of (b ∷ [])) j (other_kind b [] j o i) in let n : None ≡ Some s.0 = sym e ∙ s.1 in absurd (cc);
-  no_number = λ w. (let y = o.no_digit in cc (sym y ∙ wide_first (b ∷ bs) w))
+      let t = tail_of b bs cs rest j k in
+      let z : t.tail ≡ [] = short b bs t.tail rest j o t.split h t.kind in
+      let i : kind_of (b ∷ []) ≡ Some j = subst (λ x. kind_of (b ∷ x) ≡ Some j) z t.kind in
+      let s = some_symbol (symbol_of (b ∷ [])) j (other_kind b [] j o i) in let n : None ≡ Some s.0 = sym e ∙ s.1 in absurd (cc);
+  no_number = λ w. (let y = o.no_digit in cc (sym y ∙ wide_first (b ∷ bs) w));
 }
 
 -- the same at the front of a text

@@ -1,12 +1,12 @@
 -- One step of the cutting, and its order.
-use Rattle.std.proofs.Common.{◌≡◌, ℕ, zero, suc, ◌+◌, ◌≤◌, ◌<◌, List, [], ◌∷◌, ◌++◌, length, take, drop, refl, sym, ◌∙◌, ap, subst, arith, length-append, append_assoc, length-drop, ◌-◌}
+use Rattle.std.proofs.Common.{◌≡◌, ℕ, ◌+◌, ◌≤◌, ◌<◌, List, [], ◌∷◌, ◌++◌, length, take, drop, sym, subst, arith, append_assoc, length-drop, ◌-◌}
 use Rattle.std.proofs.Math.Seq.{take-length}
 use Rattle.std.proofs.lemmas.List.{length-take-le, append-nil, drop-drop, drop_all}
 use Rattle.th_tree.specs.declared.tokens.TokenKind.{TokenKind}
 use Rattle.th_tree.specs.declared.tokens.Token.{Token}
 use Rattle.th_tree.specs.Spans.{InOrder}
-use Rattle.th_tree.specs.Cut.{TokenAt, Longest, Gap, CutTo, there, gap, token, Cut, BadByte, WideNumber, FirstBad, FirstWide}
-use Rattle.th_lex.proofs.Gaps.{gap_some, gap_size}
+use Rattle.th_tree.specs.Cut.{Longest, Gap, CutTo, there, gap, token, Cut, BadByte, WideNumber, FirstBad, FirstWide}
+use Rattle.th_lex.proofs.Gaps.{gap_size}
 use Rattle.th_lex.proofs.Unique.{token_some}
 
 later : (a b to : ℕ) (ts : List Token) → b ≤ a → InOrder a to ts → InOrder b to ts
@@ -44,7 +44,7 @@ past_gap text at n ts h g0 =
     let w = h.within in
     record {
       within = omega arith;
-      before = λ to rest us d. h.before to rest us (gap at (drop at text) (drop n (drop at text)) n g (subst (λ q. CutTo to rest (at + n) q us) (further_drop at n text) d))
+      before = λ to rest us d. h.before to rest us (gap at (drop at text) (drop n (drop at text)) n g (subst (λ q. CutTo to rest (at + n) q us) (further_drop at n text) d));
     }
 
 pub past_token : (text : List ℕ) (at n : ℕ) (k : TokenKind) (ts : List Token) → Done text at ts
@@ -52,7 +52,7 @@ pub past_token : (text : List ℕ) (at n : ℕ) (k : TokenKind) (ts : List Token
     → Done text (at + n) (ts ++ record { kind = k; start = at; end = at + n } ∷ [])
 past_token text at n k ts h s0 =
     let s : (n ≤ length (drop at text)) × Longest (drop at text) (take n (drop at text)) (drop n (drop at text)) k =
-      subst (λ q. (n ≤ length q) × Longest q (take n q) (drop n q) k) (rest_all at text) s0 in
+    subst (λ q. (n ≤ length q) × Longest q (take n q) (drop n q) k) (rest_all at text) s0 in
     let len : length (take n (drop at text)) ≡ n = length-take-le n (drop at text) s.0 in
     let left : length (drop at text) ≡ length text - at = length-drop at text in
     let w = h.within in
@@ -60,11 +60,11 @@ past_token text at n k ts h s0 =
     record {
       within = omega arith;
       before = λ to rest us d.
-        let d1 : CutTo to rest (at + n) (drop n (drop at text)) us = subst (λ q. CutTo to rest (at + n) q us) (further_drop at n text) d in
-        let d2 : CutTo to rest (at + length (take n (drop at text))) (drop n (drop at text)) us = subst (λ q. CutTo to rest (at + q) (drop n (drop at text)) us) (sym len) d1 in
-        let d3 = h.before to rest _ (token at (drop at text) (take n (drop at text)) (drop n (drop at text)) k s.1 d2) in
-        let d4 = subst (λ q. CutTo to rest 0 text (ts ++ record { kind = k; start = at; end = at + q } ∷ us)) len d3 in
-        subst (λ q. CutTo to rest 0 text q) (sym (append_assoc ts (record { kind = k; start = at; end = at + n } ∷ []) us)) d4
+          let d1 : CutTo to rest (at + n) (drop n (drop at text)) us = subst (λ q. CutTo to rest (at + n) q us) (further_drop at n text) d in
+          let d2 : CutTo to rest (at + length (take n (drop at text))) (drop n (drop at text)) us = subst (λ q. CutTo to rest (at + q) (drop n (drop at text)) us) (sym len) d1 in
+          let d3 = h.before to rest _ (token at (drop at text) (take n (drop at text)) (drop n (drop at text)) k s.1 d2) in
+          let d4 = subst (λ q. CutTo to rest 0 text (ts ++ record { kind = k; start = at; end = at + q } ∷ us)) len d3 in
+          subst (λ q. CutTo to rest 0 text q) (sym (append_assoc ts (record { kind = k; start = at; end = at + n } ∷ []) us)) d4;
     }
 
 -- what is cut up to a byte

@@ -1,11 +1,10 @@
 -- A text has one verdict at most.
-use Rattle.std.proofs.Common.{◌≡◌, ℕ, zero, suc, ◌+◌, ◌≤◌, ◌<◌, List, [], ◌∷◌, ◌++◌, length, Option, Some, None, refl, sym, ◌∙◌, ap, subst, arith, length-append, ◌⊎◌, inl, inr}
+use Rattle.std.proofs.Common.{◌≡◌, ℕ, ◌+◌, ◌≤◌, ◌<◌, List, [], ◌∷◌, ◌++◌, length, Some, refl, sym, ◌∙◌, ap, subst, arith, length-append, ◌⊎◌, inl, inr}
 use Rattle.std.proofs.lemmas.List.{append_cancel_left}
 use Rattle.th_tree.specs.declared.tokens.TokenKind.{TokenKind}
 use Rattle.th_tree.specs.declared.tokens.Token.{Token}
 use Rattle.th_tree.specs.Tokens.{kind_of}
-use Rattle.th_tree.specs.Spans.{InOrder}
-use Rattle.th_tree.specs.Cut.{TokenAt, Longest, Gap, CutTo, there, gap, token, Cut, WideNumber, BadByte, Verdict, Cuts, Bad, Wide, HasVerdict}
+use Rattle.th_tree.specs.Cut.{TokenAt, Longest, Gap, CutTo, there, gap, token, WideNumber, BadByte, Verdict, Cuts, Bad, Wide, HasVerdict}
 use Rattle.th_lex.proofs.Gaps.{gap_some, gap_size, gap_no_token, same_gap, wide_no_gap, wide_no_token}
 
 -- two fronts of one length are one

@@ -1,5 +1,5 @@
 -- The value of digits only grows.
-use Rattle.std.proofs.Common.{◌≡◌, ℕ, ◌+◌, ◌*◌, ◌-◌, ◌≤◌, ◌<◌, List, [], ◌∷◌, nat_le, None, refl, sym, subst, arith, le_refl}
+use Rattle.std.proofs.Common.{◌≡◌, ℕ, ◌+◌, ◌*◌, ◌-◌, ◌≤◌, ◌<◌, List, [], ◌∷◌, None, refl, sym, subst, arith, le_refl}
 use Rattle.std.proofs.lemmas.Bool.{lt-leb}
 use Rattle.th_tree.specs.Tokens.{value}
 use Rattle.th_lex.specs.Stands.{decimal_of}

@@ -1,7 +1,7 @@
 -- What an answer of the cutting says.
-use Rattle.std.specs.Prelude.{◌≡◌, ℕ, List, Result, Ok, Err, Option, Some, None}
+use Rattle.std.specs.Prelude.{Result, Ok, Err, Option, Some, None}
 use Rattle.th_tree.specs.Spans.{Tokenized}
-use Rattle.th_tree.specs.Cut.{Cut, FirstBad, FirstWide, Verdict, Cuts, Bad, Wide}
+use Rattle.th_tree.specs.Cut.{Verdict, Cuts, Bad, Wide}
 use Rattle.th_lex.specs.declared.LexError.{LexError}
 use Rattle.th_lex.specs.declared.LexError.TheVariants as errors
 

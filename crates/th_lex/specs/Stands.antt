@@ -1,5 +1,5 @@
 -- What stands at the front of a text.
-use Rattle.std.specs.Prelude.{ℕ, ◌+◌, ◌≤◌, Bool, true, false, nat_eq, nat_le, List, [], ◌∷◌, length, take, drop, Option, Some, None, if◌then◌else◌}
+use Rattle.std.specs.Prelude.{ℕ, ◌+◌, ◌≤◌, nat_eq, nat_le, List, [], ◌∷◌, length, take, drop, Option, Some, None, if◌then◌else◌}
 use Rattle.th_tree.specs.Tokens.{value, is_printed, is_escape}
 use Rattle.th_tree.specs.Cut.{Gap, Longest, BadByte, WideNumber}
 use Rattle.th_lex.specs.declared.front.Item.{Item}

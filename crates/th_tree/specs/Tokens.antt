@@ -2,9 +2,92 @@
 use Rattle.std.specs.Prelude.{ℕ, ◌+◌, ◌*◌, ◌-◌, Bool, true, false, ◌&&◌, ◌||◌, nat_eq, nat_le, List, [], ◌∷◌, length, Option, Some, None, if◌then◌else◌, codes}
 use Rattle.std.specs.Str.{bytes_eq}
 use Rattle.th_tree.specs.declared.tokens.Reserved.{Reserved}
-use Rattle.th_tree.specs.declared.tokens.Reserved.TheVariants.{KeyModule, KeyInterface, KeyImplements, KeyUses, KeyType, KeyClass, KeyFor, KeyInherits, KeyWhere, KeyHas, KeyException, KeyRoutine, KeyIter, KeyInit, KeyHidden, KeyField, KeyReturns, KeyYields, KeySignals, KeyVar, KeyIf, KeyThen, KeyElseif, KeyElse, KeyEnd, KeyWhile, KeyDo, KeyIn, KeyBreak, KeyReturn, KeyYield, KeyRaise, KeyBegin, KeyExcept, KeyWhen, KeyNew, KeyArray, KeyInt, KeyBool, KeyTrue, KeyFalse, KeySelf, KeySuper, KeyOr, KeyAnd, KeyNot, KeyLength, KeyPutByte, KeyPutInt, KeyGetByte, KeyOverflow, KeyZeroDivide, KeyBounds, KeyEndOfInput, KeyString, KeyPutString}
+use Rattle.th_tree.specs.declared.tokens.Reserved.TheVariants.{
+  KeyModule,
+  KeyInterface,
+  KeyImplements,
+  KeyUses,
+  KeyType,
+  KeyClass,
+  KeyFor,
+  KeyInherits,
+  KeyWhere,
+  KeyHas,
+  KeyException,
+  KeyRoutine,
+  KeyIter,
+  KeyInit,
+  KeyHidden,
+  KeyField,
+  KeyReturns,
+  KeyYields,
+  KeySignals,
+  KeyVar,
+  KeyIf,
+  KeyThen,
+  KeyElseif,
+  KeyElse,
+  KeyEnd,
+  KeyWhile,
+  KeyDo,
+  KeyIn,
+  KeyBreak,
+  KeyReturn,
+  KeyYield,
+  KeyRaise,
+  KeyBegin,
+  KeyExcept,
+  KeyWhen,
+  KeyNew,
+  KeyArray,
+  KeyInt,
+  KeyBool,
+  KeyTrue,
+  KeyFalse,
+  KeySelf,
+  KeySuper,
+  KeyOr,
+  KeyAnd,
+  KeyNot,
+  KeyLength,
+  KeyPutByte,
+  KeyPutInt,
+  KeyGetByte,
+  KeyOverflow,
+  KeyZeroDivide,
+  KeyBounds,
+  KeyEndOfInput,
+  KeyString,
+  KeyPutString,
+}
 use Rattle.th_tree.specs.declared.tokens.Sym.{Sym}
-use Rattle.th_tree.specs.declared.tokens.Sym.TheVariants.{OpenParen, CloseParen, OpenSquare, CloseSquare, OpenBrace, CloseBrace, Comma, Semicolon, Colon, Dot, Dollar, Becomes, Equal, Same, NotEqual, Less, LessEqual, Greater, GreaterEqual, Plus, Minus, Times, Divide, Remainder, Ampersand}
+use Rattle.th_tree.specs.declared.tokens.Sym.TheVariants.{
+  OpenParen,
+  CloseParen,
+  OpenSquare,
+  CloseSquare,
+  OpenBrace,
+  CloseBrace,
+  Comma,
+  Semicolon,
+  Colon,
+  Dot,
+  Dollar,
+  Becomes,
+  Equal,
+  Same,
+  NotEqual,
+  Less,
+  LessEqual,
+  Greater,
+  GreaterEqual,
+  Plus,
+  Minus,
+  Times,
+  Divide,
+  Remainder,
+  Ampersand,
+}
 use Rattle.th_tree.specs.declared.tokens.TokenKind.{TokenKind}
 use Rattle.th_tree.specs.declared.tokens.TokenKind.TheVariants.{Name, Word, Number, Symbol, Text}
 
@@ -97,11 +180,18 @@ sign Ampersand = codes "&"
 
 -- all reserved words
 abbrev pub all_words : List Reserved
-all_words = KeyModule ∷ KeyInterface ∷ KeyImplements ∷ KeyUses ∷ KeyType ∷ KeyClass ∷ KeyFor ∷ KeyInherits ∷ KeyWhere ∷ KeyHas ∷ KeyException ∷ KeyRoutine ∷ KeyIter ∷ KeyInit ∷ KeyHidden ∷ KeyField ∷ KeyReturns ∷ KeyYields ∷ KeySignals ∷ KeyVar ∷ KeyIf ∷ KeyThen ∷ KeyElseif ∷ KeyElse ∷ KeyEnd ∷ KeyWhile ∷ KeyDo ∷ KeyIn ∷ KeyBreak ∷ KeyReturn ∷ KeyYield ∷ KeyRaise ∷ KeyBegin ∷ KeyExcept ∷ KeyWhen ∷ KeyNew ∷ KeyArray ∷ KeyInt ∷ KeyBool ∷ KeyTrue ∷ KeyFalse ∷ KeySelf ∷ KeySuper ∷ KeyOr ∷ KeyAnd ∷ KeyNot ∷ KeyLength ∷ KeyPutByte ∷ KeyPutInt ∷ KeyGetByte ∷ KeyOverflow ∷ KeyZeroDivide ∷ KeyBounds ∷ KeyEndOfInput ∷ KeyString ∷ KeyPutString ∷ []
+all_words =
+    KeyModule ∷ KeyInterface ∷ KeyImplements ∷ KeyUses ∷ KeyType ∷ KeyClass ∷ KeyFor ∷ KeyInherits ∷ KeyWhere ∷ KeyHas ∷ KeyException
+    ∷ KeyRoutine ∷ KeyIter ∷ KeyInit ∷ KeyHidden ∷ KeyField ∷ KeyReturns ∷ KeyYields ∷ KeySignals ∷ KeyVar ∷ KeyIf ∷ KeyThen ∷
+    KeyElseif ∷ KeyElse ∷ KeyEnd ∷ KeyWhile ∷ KeyDo ∷ KeyIn ∷ KeyBreak ∷ KeyReturn ∷ KeyYield ∷ KeyRaise ∷ KeyBegin ∷ KeyExcept ∷
+    KeyWhen ∷ KeyNew ∷ KeyArray ∷ KeyInt ∷ KeyBool ∷ KeyTrue ∷ KeyFalse ∷ KeySelf ∷ KeySuper ∷ KeyOr ∷ KeyAnd ∷ KeyNot ∷ KeyLength ∷
+    KeyPutByte ∷ KeyPutInt ∷ KeyGetByte ∷ KeyOverflow ∷ KeyZeroDivide ∷ KeyBounds ∷ KeyEndOfInput ∷ KeyString ∷ KeyPutString ∷ []
 
 -- all symbols
 abbrev pub all_symbols : List Sym
-all_symbols = OpenParen ∷ CloseParen ∷ OpenSquare ∷ CloseSquare ∷ OpenBrace ∷ CloseBrace ∷ Comma ∷ Semicolon ∷ Colon ∷ Dot ∷ Dollar ∷ Becomes ∷ Equal ∷ Same ∷ NotEqual ∷ Less ∷ LessEqual ∷ Greater ∷ GreaterEqual ∷ Plus ∷ Minus ∷ Times ∷ Divide ∷ Remainder ∷ Ampersand ∷ []
+all_symbols =
+    OpenParen ∷ CloseParen ∷ OpenSquare ∷ CloseSquare ∷ OpenBrace ∷ CloseBrace ∷ Comma ∷ Semicolon ∷ Colon ∷ Dot ∷ Dollar ∷ Becomes ∷
+    Equal ∷ Same ∷ NotEqual ∷ Less ∷ LessEqual ∷ Greater ∷ GreaterEqual ∷ Plus ∷ Minus ∷ Times ∷ Divide ∷ Remainder ∷ Ampersand ∷ []
 
 -- the first of some things that is written as these bytes
 abbrev pub written_as : {A : Type 0} → (A → List ℕ) → List A → List ℕ → Option A

@@ -1,6 +1,6 @@
 use Rattle.std.proofs.Common.{◌≡◌, ◌+◌, ◌++◌, ◌∷◌, [], List, sym, subst, rules}
 use Rattle.th_tree.specs.declared.tokens.Token.{Token}
-use Rattle.th_tree.specs.Cut.{Cut, HasVerdict, Verdict, Bad, Wide, Cuts}
+use Rattle.th_tree.specs.Cut.{Cut, Bad, Wide, Cuts}
 use Rattle.th_lex.proofs.Steps.{Done, past_gap, past_token, first_bad, first_wide, whole, in_order}
 use Rattle.th_lex.proofs.Unique.{one_verdict}
 use Rattle.th_lex.proofs.lex.Goals as goal

@@ -1,5 +1,4 @@
-use Rattle.std.proofs.Common.{◌≡◌, ◌<◌, ◌≤◌, ◌⊎◌, inl, inr, length, slice_index, arith, Option, Some, None}
-use Rattle.th_tree.specs.declared.tokens.Sym.{Sym}
+use Rattle.std.proofs.Common.{◌<◌, length, slice_index}
 use Rattle.th_lex.proofs.Signs.{Other, pair_stands, single_stands, symbol_bad, is_long}
 use Rattle.th_lex.proofs.front.symbol.Goals as goal
 
