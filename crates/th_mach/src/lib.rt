@@ -1,2 +1,4 @@
-//! Not written yet.
+//! The RV32IM machine: memory, registers, one instruction at a time, whole runs.
 #![tactic(auto)]
+
+mod memory;

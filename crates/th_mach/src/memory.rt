@@ -1,0 +1,147 @@
+//! Memory: areas of bytes at addresses.
+
+ghost use Rattle.std.specs.Prelude.{◌≡◌, ◌<◌, ◌+◌, ◌≤◌, ◌-◌, ◌*◌, ◌/◌, ◌%◌, ◌^◌, ℕ, length, IsTrue, cond, slice_get, None, true};
+ghost use Rattle.th_rv.specs.Memory.{has, allows, byte_at, put_at, area_set, number_at, put_number};
+
+use std::marker::Model;
+
+/// A run of bytes from an address on. The flags are a sum of 1 (fetched from), 2 (stored to) and
+/// 4 (loaded from).
+#[derive(Drop)]
+pub(crate) struct Area {
+    at: u32,
+    flags: u32,
+    bytes: Vec<u8>,
+}
+
+impl Model for Area {
+    ghost use Rattle.th_rv.specs.Memory as memory;
+
+    ghost Value = { memory.Area };
+
+    ghost view = { λ a. record { at = a.at; flags = a.flags; bytes = a.bytes.items } };
+}
+
+impl Area {
+    pub(crate) fn new(at: u32, flags: u32, bytes: Vec<u8>) -> Area
+        ensures { result ≡ record { at = at; flags = flags; bytes = bytes.items } }
+    {
+        Area { at, flags, bytes }
+    }
+
+    /// Whether the area has the address.
+    #[tactic(auto, unfolding(th_rv::specs::Memory::has))]
+    fn covers(&self, at: u64) -> bool
+        ensures same { result ≡ has self.now at }
+        ensures from { IsTrue result → self.now.at ≤ at }
+        ensures within { IsTrue result → at - self.now.at < length self.now.bytes }
+    {
+        let first = u64::from(self.at);
+        at >= first && at - first < self.bytes.len() as u64
+    }
+
+    /// Whether the flags of the area have the flag.
+    #[tactic(auto, unfolding(th_rv::specs::Memory::allows))]
+    fn permits(&self, flag: u32) -> bool
+        requires { 0 < flag }
+        ensures { result ≡ allows flag self.now.flags }
+    {
+        self.flags / flag % 2 == 1
+    }
+
+    /// The byte at an address of the area, where the flag allows it.
+    fn byte(&self, flag: u32, at: u64) -> Option<u8>
+        requires flag { 0 < flag }
+        requires from { self.now.at ≤ at }
+        requires within { at - self.now.at < length self.now.bytes }
+        ensures { result ≡ cond (allows flag self.now.flags) (slice_get self.now.bytes (at - self.now.at)) None }
+    {
+        if self.permits(flag) {
+            Some(self.bytes[(at - u64::from(self.at)) as usize])
+        } else {
+            None
+        }
+    }
+
+    /// Puts a byte at an address of the area.
+    #[tactic(auto, unfolding(th_rv::specs::Memory::area_set))]
+    fn put(&mut self, at: u64, value: u8)
+        requires from { self.old.at ≤ at }
+        requires within { at - self.old.at < length self.old.bytes }
+        ensures { self.new ≡ area_set self.old (at - self.old.at) value }
+    {
+        let first = u64::from(self.at);
+        self.bytes[(at - first) as usize] = value;
+    }
+}
+
+/// The byte at an address, where the flag allows it.
+pub(crate) fn byte_in(areas: &[Area], flag: u32, at: u64) -> Option<u8>
+    requires { 0 < flag }
+    ensures { result ≡ byte_at flag areas.now at }
+{
+    for area in areas {
+        if area.covers(at) {
+            return area.byte(flag, at);
+        }
+    }
+    None
+}
+
+/// The halfword at an address, where the flag allows each of its bytes.
+pub(crate) fn half_in(areas: &[Area], flag: u32, at: u64) -> Option<u32>
+    requires flag { 0 < flag }
+    requires room { at < 2 ^ 32 }
+    ensures { result ≡ number_at 2 flag areas.now at }
+{
+    let first = byte_in(areas, flag, at)?;
+    let second = byte_in(areas, flag, at + 1)?;
+    Some(u32::from(first) + 256 * u32::from(second))
+}
+
+/// The word at an address, where the flag allows each of its bytes.
+pub(crate) fn word_in(areas: &[Area], flag: u32, at: u64) -> Option<u32>
+    requires flag { 0 < flag }
+    requires room { at < 2 ^ 32 }
+    ensures { result ≡ number_at 4 flag areas.now at }
+{
+    let first = byte_in(areas, flag, at)?;
+    let second = byte_in(areas, flag, at + 1)?;
+    let third = byte_in(areas, flag, at + 2)?;
+    let fourth = byte_in(areas, flag, at + 3)?;
+    let high = u32::from(third) + 256 * u32::from(fourth);
+    Some(u32::from(first) + 256 * (u32::from(second) + 256 * high))
+}
+
+/// Puts a byte at an address, where an area has it.
+pub(crate) fn put_in(areas: &mut [Area], at: u64, value: u8)
+    ensures { areas.new ≡ put_at areas.old at value }
+{
+    for i in 0..areas.len() {
+        if areas[i].covers(at) {
+            let area = &mut areas[i];
+            area.put(at, value);
+            return;
+        }
+    }
+}
+
+/// Puts the low halfword of a word at an address.
+pub(crate) fn put_half_in(areas: &mut [Area], at: u64, value: u32)
+    requires { at < 2 ^ 32 }
+    ensures { areas.new ≡ put_number 2 areas.old at value }
+{
+    put_in(areas, at, (value % 256) as u8);
+    put_in(areas, at + 1, (value / 256 % 256) as u8);
+}
+
+/// Puts a word at an address.
+pub(crate) fn put_word_in(areas: &mut [Area], at: u64, value: u32)
+    requires { at < 2 ^ 32 }
+    ensures { areas.new ≡ put_number 4 areas.old at value }
+{
+    put_in(areas, at, (value % 256) as u8);
+    put_in(areas, at + 1, (value / 256 % 256) as u8);
+    put_in(areas, at + 2, (value / 65536 % 256) as u8);
+    put_in(areas, at + 3, (value / 16777216 % 256) as u8);
+}
