@@ -1,7 +1,7 @@
 //! Memory: areas of bytes at addresses.
 
-ghost use Rattle.std.specs.Prelude.{◌≡◌, ◌<◌, ◌+◌, ◌≤◌, ◌-◌, ◌*◌, ◌/◌, ◌%◌, ◌^◌, ℕ, length, IsTrue, cond, slice_get, None, true};
-ghost use Rattle.th_rv.specs.Memory.{has, allows, byte_at, put_at, area_set, number_at, put_number};
+ghost use Rattle.std.specs.Prelude.{◌≡◌, ◌<◌, ◌+◌, ◌≤◌, ◌-◌, ◌*◌, ◌/◌, ◌%◌, ◌^◌, ℕ, length, IsTrue, cond, slice_get, None, true, is_some, IfSome};
+ghost use Rattle.th_rv.specs.Memory.{has, allows, byte_at, put_at, area_set, number_at, put_number, bytes_at};
 
 use std::marker::Model;
 
@@ -92,7 +92,8 @@ pub(crate) fn byte_in(areas: &[Area], flag: u32, at: u64) -> Option<u8>
 pub(crate) fn half_in(areas: &[Area], flag: u32, at: u64) -> Option<u32>
     requires flag { 0 < flag }
     requires room { at < 2 ^ 32 }
-    ensures { result ≡ number_at 2 flag areas.now at }
+    ensures number { result ≡ number_at 2 flag areas.now at }
+    ensures low { IfSome result (λ v. v < 2 ^ 16) }
 {
     let first = byte_in(areas, flag, at)?;
     let second = byte_in(areas, flag, at + 1)?;
@@ -111,6 +112,18 @@ pub(crate) fn word_in(areas: &[Area], flag: u32, at: u64) -> Option<u32>
     let fourth = byte_in(areas, flag, at + 3)?;
     let high = u32::from(third) + 256 * u32::from(fourth);
     Some(u32::from(first) + 256 * (u32::from(second) + 256 * high))
+}
+
+/// Whether each of so many bytes from an address on can be loaded.
+pub(crate) fn are_loadable(areas: &[Area], at: u32, length: u32) -> bool
+    ensures { result ≡ is_some (bytes_at length areas.now at) }
+{
+    for i in 0..u64::from(length) {
+        if byte_in(areas, 4, u64::from(at) + i).is_none() {
+            return false;
+        }
+    }
+    true
 }
 
 /// Puts a byte at an address, where an area has it.

@@ -7,10 +7,9 @@ pub returns-then-covers : goal.returns-then-covers
 returns-then-covers c =
     let d = c.index-areas-i-then-covers.result in
     let b = c.index-areas-i.result in
-    let e : d ≡ get_or c.loop-i.areas c.loop-i.i d = c.index-areas-i-then-covers.is in
     let same : get_or c.loop-i.areas c.loop-i.i d ≡ get_or c.loop-i.areas c.loop-i.i b = one_read c.loop-i.areas c.loop-i.i d b (omega arith) in
     let here : has (get_or c.loop-i.areas c.loop-i.i d) c.args.at ≡ true = ap (λ x. has x c.args.at) same ∙ sym c.covers.ensures.same ∙ c.if-covers.true in
-    put_found c.loop-i.areas c.loop-i.i c.args.at c.args.value d _ (omega arith) c.loop-i.invariant.1 here (c.put.ensures ∙ ap (λ x. area_set x (c.args.at - x.at) c.args.value) e) ∙ ap (λ l. put_at l c.args.at c.args.value) c.loop-i.invariant.0
+    put_found c.loop-i.areas c.loop-i.i c.args.at c.args.value d _ (omega arith) c.loop-i.invariant.1 here c.put.ensures ∙ ap (λ l. put_at l c.args.at c.args.value) c.loop-i.invariant.0
 
 pub returns : goal.returns
 returns c = put_nowhere c.loop-i.areas c.args.at c.args.value (λ k e l. c.loop-i.invariant.1 k e (omega arith)) ∙ ap (λ l. put_at l c.args.at c.args.value) c.loop-i.invariant.0
