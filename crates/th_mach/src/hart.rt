@@ -1,15 +1,16 @@
 //! The hart: program counter, registers and memory, and what each instruction does to them.
 
-ghost use Rattle.std.specs.Prelude.{◌≡◌, ◌<◌, ◌≤◌, ◌^◌, ℕ, cond};
-ghost use Rattle.th_rv.specs.Step.{reg, with_reg, address, jump, branch, load, store, whole, environment_call, raise, execute};
+ghost use Rattle.std.specs.Prelude.{◌≡◌, ◌<◌, ◌≤◌, ◌^◌, ℕ, cond, IfOk, IfErr};
+ghost use Rattle.th_rv.specs.Step.{Traps, step, reg, with_reg, address, jump, branch, load, store, whole, environment_call, raise, execute};
 ghost use Rattle.th_rv.specs.Table.{Valid};
+ghost use Rattle.th_elf.specs.Run.{with_a0};
 ghost use Rattle.th_word.specs.Word.{extend_8 as signed_8, extend_16 as signed_16};
 ghost use Rattle.th_mach.specs.Done.{act_of, Stays};
 ghost use Rattle.th_mach.specs.Group.{group};
 
 use crate::memory::{Area, are_loadable, byte_in, half_in, put_half_in, put_in, put_word_in, word_in};
 use std::marker::Model;
-use th_rv::{Cause, Instr};
+use th_rv::{Cause, Instr, decode};
 use th_word::{
     add, and, divide, divide_unsigned, extend_12, extend_13, extend_16, extend_21, extend_8,
     multiply, multiply_high, multiply_high_mixed, multiply_high_unsigned, or, remainder,
@@ -53,6 +54,64 @@ pub(crate) enum Done {
 }
 
 impl Hart {
+    /// The hart with these registers and this memory, at an address.
+    pub(crate) fn new(pc: u32, regs: [u32; 32], areas: Vec<Area>) -> Hart
+        ensures { result ≡ record { pc = pc; regs = regs; areas = areas.items } }
+    {
+        Hart { pc, regs, areas }
+    }
+
+    /// The program counter.
+    pub(crate) fn pc(&self) -> u32
+        ensures { result ≡ self.now.pc }
+    {
+        self.pc
+    }
+
+    /// The instruction at the program counter, or why there is none.
+    #[tactic(auto, unfolding(th_rv::specs::Step::step))]
+    pub(crate) fn instr(&self) -> Result<Instr, Cause>
+        ensures found { IfOk result (λ instr. step self.now ≡ execute instr self.now) }
+        ensures valid { IfOk result (λ instr. Valid instr) }
+        ensures none { IfErr result (λ cause. step self.now ≡ Traps cause) }
+    {
+        if self.pc % 4 != 0 {
+            return Err(Cause::Fetch);
+        }
+        match word_in(&self.areas, 1, u64::from(self.pc)) {
+            None => Err(Cause::Fetch),
+            Some(word) => decode(word).ok_or(Cause::Illegal),
+        }
+    }
+
+    /// Carries out the instruction at the program counter.
+    pub(crate) fn step(&mut self) -> Done
+        ensures act { step self.old ≡ act_of result self.old self.new }
+        ensures stays { Stays result self.old self.new }
+    {
+        match self.instr() {
+            Err(cause) => Done::Trapped(cause),
+            Ok(instr) => self.execute(instr),
+        }
+    }
+
+    /// Goes on to the next instruction.
+    pub(crate) fn advance(&mut self)
+        ensures { self.new ≡ with_reg self.old 0 0 }
+    {
+        let _next = self.write(0, 0);
+    }
+
+    /// Writes a word into a0 and goes on to the next instruction.
+    #[tactic(auto, unfolding(th_rv::specs::Step::with_reg, th_elf::specs::Run::with_a0))]
+    pub(crate) fn take(&mut self, word: u32)
+        ensures { self.new ≡ with_a0 (with_reg self.old 0 0) word }
+    {
+        self.regs[10] = word;
+        self.pc = add(self.pc, 4);
+    }
+
+    /// A register.
     pub(crate) fn get(&self, r: u32) -> u32
         requires { r < 32 }
         ensures { result ≡ reg self.now.regs r }

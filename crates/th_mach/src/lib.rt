@@ -1,5 +1,10 @@
 //! The RV32IM machine: memory, registers, one instruction at a time, whole runs.
 #![tactic(auto)]
 
+mod answer;
 mod hart;
+mod machine;
 mod memory;
+
+pub use answer::{Outcome, Step};
+pub use machine::Machine;
