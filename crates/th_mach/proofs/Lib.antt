@@ -1,2 +1,3 @@
 pub mod Areas
 pub mod Names
+pub mod Gets

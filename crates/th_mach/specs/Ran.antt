@@ -10,6 +10,12 @@ use Rattle.th_mach.specs.declared.answer.Outcome.{Outcome}
 use Rattle.th_mach.specs.declared.answer.Outcome.TheVariants.{Ended, Raised, RoomUsed, StepsUsed, Trap, ReadFault, WriteFault}
 use Rattle.th_mach.specs.Counted.{Counted, is_put, is_get}
 
+-- the outcome for each way to come to an end
+abbrev pub outcome_of : halt.Halt → Outcome
+outcome_of halt.Ended = Ended
+outcome_of (halt.Raised at length) = Raised at length
+outcome_of halt.RoomUsed = RoomUsed
+
 -- the machine, its count of retired instructions, and what its streams tell: the bytes put, the bytes left (none
 -- where they aren't told), and the counts of faults
 pub record Seen : Type 0 where
@@ -83,3 +89,28 @@ pub record Ran (steps : ℕ) (before : Seen) (outcome : Outcome) (later : Seen) 
   pub middle : Seen
   pub retiring : Retiring before log middle
   pub ends : Ends outcome (length log) steps middle later
+
+-- the machine and what its streams tell
+abbrev pub seen : Counted → (put left : Option (List ℕ)) → (read_faults write_faults : ℕ) → Seen
+seen c put left read_faults write_faults = record { machine = c.machine; retired = c.retired; put = put; left = left; read_faults = read_faults; write_faults = write_faults }
+
+-- the outcome of a machine that retires nothing more in a call
+abbrev pub outcome_by : Status → Outcome
+outcome_by Running = StepsUsed
+outcome_by (Stopped end) = outcome_of end
+outcome_by (Trapped cause pc) = Trap cause pc
+
+-- whether an outcome is an end, not the last of the steps
+abbrev pub IsOver : Outcome → Type 0
+IsOver Ended = Unit {0}
+IsOver (Raised at length) = Unit {0}
+IsOver RoomUsed = Unit {0}
+IsOver StepsUsed = ⊥
+IsOver (Trap cause pc) = Unit {0}
+IsOver ReadFault = Unit {0}
+IsOver WriteFault = Unit {0}
+
+-- one turn of a run: one instruction is retired and the machine goes on, or the run is over with at most one
+abbrev pub Turned : Seen → Option Outcome → Seen → Type 0
+Turned before None later = (e : Retired) × Retiring before (e ∷ []) later × (later.machine.status ≡ Running)
+Turned before (Some outcome) later = Ran 1 before outcome later × IsOver outcome

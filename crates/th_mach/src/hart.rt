@@ -5,9 +5,12 @@ ghost use Rattle.th_rv.specs.Step.{Traps, step, reg, with_reg, address, jump, br
 ghost use Rattle.th_rv.specs.Table.{Valid};
 ghost use Rattle.th_elf.specs.Run.{with_a0};
 ghost use Rattle.th_word.specs.Word.{extend_8 as signed_8, extend_16 as signed_16};
-ghost use Rattle.th_mach.specs.Done.{act_of, Stays};
+ghost use Rattle.th_mach.specs.Done.{act_of, halt_of, Stays};
+ghost use Rattle.th_mach.specs.Counted.{answer_of, is_get};
+ghost use Rattle.th_mach.specs.Ran.{outcome_of};
 ghost use Rattle.th_mach.specs.Group.{group};
 
+use crate::answer::{Outcome, Step};
 use crate::memory::{Area, are_loadable, byte_in, half_in, put_half_in, put_in, put_word_in, word_in};
 use std::marker::Model;
 use th_rv::{Cause, Instr, decode};
@@ -40,6 +43,30 @@ pub(crate) enum Halt {
     Ended,
     Raised { at: u32, length: u32 },
     RoomUsed,
+}
+
+impl Halt {
+    /// The answer of `step`.
+    pub(crate) fn answer(self) -> Step
+        ensures { result ≡ answer_of (halt_of self) }
+    {
+        match self {
+            Halt::Ended => Step::Ended,
+            Halt::Raised { at, length } => Step::Raised { at, length },
+            Halt::RoomUsed => Step::RoomUsed,
+        }
+    }
+
+    /// The outcome of `run`.
+    pub(crate) fn outcome(self) -> Outcome
+        ensures { result ≡ outcome_of (halt_of self) }
+    {
+        match self {
+            Halt::Ended => Outcome::Ended,
+            Halt::Raised { at, length } => Outcome::Raised { at, length },
+            Halt::RoomUsed => Outcome::RoomUsed,
+        }
+    }
 }
 
 /// What an instruction did, or, where it puts or asks for a byte or traps, is about to do: then
@@ -92,6 +119,26 @@ impl Hart {
         match self.instr() {
             Err(cause) => Done::Trapped(cause),
             Ok(instr) => self.execute(instr),
+        }
+    }
+
+    /// Whether the instruction at the program counter asks for a byte.
+    pub(crate) fn asks(&self) -> bool
+        ensures { result ≡ is_get (step self.now) }
+    {
+        match self.instr() {
+            Ok(instr) => self.asks_by(instr),
+            Err(_) => false,
+        }
+    }
+
+    /// Whether an instruction asks for a byte: it is an ECALL with a7 of 2.
+    fn asks_by(&self, instr: Instr) -> bool
+        ensures { result ≡ is_get (execute instr self.now) }
+    {
+        match instr {
+            Instr::Ecall => self.get(17) == 2,
+            _ => false,
         }
     }
 

@@ -5,6 +5,7 @@ mod answer;
 mod hart;
 mod machine;
 mod memory;
+mod run;
 
 pub use answer::{Outcome, Step};
 pub use machine::Machine;

@@ -1,10 +1,10 @@
 //! The machine: a hart, how it stands, and the count of the instructions that it retired.
 
 ghost use Rattle.std.specs.Prelude.{◌≡◌, ◌<◌, ◌↔◌, ℕ, true, IsTrue};
-ghost use Rattle.th_rv.specs.Step.{reg, step};
-ghost use Rattle.th_elf.specs.Run.{Running};
+ghost use Rattle.th_rv.specs.Step.{reg, with_reg, step};
+ghost use Rattle.th_elf.specs.Run.{Running, with_a0};
 ghost use Rattle.th_mach.specs.Done.{act_of};
-ghost use Rattle.th_mach.specs.Counted.{step_of, given, is_get, IsWaiting};
+ghost use Rattle.th_mach.specs.Counted.{retire, stepped, step_of, word_of, given, IsWaiting};
 ghost use Rattle.th_mach.specs.Status.{status_of, later_of};
 
 use crate::answer::Step;
@@ -26,7 +26,7 @@ pub(crate) enum Status {
 #[derive(Drop)]
 pub struct Machine {
     hart: Hart,
-    status: Status,
+    pub(crate) status: Status,
     retired: u64,
 }
 
@@ -43,7 +43,7 @@ impl Model for Machine {
 impl Machine {
     /// Carries out the instruction at the program counter of a machine that runs, but puts no
     /// byte and takes none.
-    fn proceed(&mut self) -> Done
+    pub(crate) fn proceed(&mut self) -> Done
         requires { self.old.machine.status ≡ Running }
         ensures act { step self.old.machine.state ≡ act_of result self.old.machine.state self.new.machine.state }
         ensures later { self.new ≡ later_of result self.old self.new.machine.state }
@@ -64,5 +64,102 @@ impl Machine {
             }
         }
         done
+    }
+
+    /// Retires an instruction that put a byte.
+    pub(crate) fn retire_put(&mut self)
+        requires { self.old.machine.status ≡ Running }
+        ensures { self.new ≡ retire self.old (with_reg self.old.machine.state 0 0) Running }
+    {
+        self.hart.advance();
+        self.retired = self.retired.saturating_add(1);
+    }
+
+    /// Retires an instruction that took a byte, or found the end of the input.
+    pub(crate) fn retire_get(&mut self, byte: Option<u8>)
+        requires { self.old.machine.status ≡ Running }
+        ensures { self.new ≡ retire self.old (with_a0 (with_reg self.old.machine.state 0 0) (word_of byte)) Running }
+    {
+        self.hart.take(byte.map_or(u32::MAX, u32::from));
+        self.retired = self.retired.saturating_add(1);
+    }
+
+    /// One instruction of a machine that runs.
+    fn carry_out(&mut self) -> Step
+        requires { self.old.machine.status ≡ Running }
+        ensures answer { result ≡ (stepped (step self.old.machine.state) self.old).answer }
+        ensures later { self.new ≡ (stepped (step self.old.machine.state) self.old).later }
+    {
+        match self.proceed() {
+            Done::Next => Step::Next,
+            Done::Put(byte) => {
+                self.retire_put();
+                Step::Put(byte)
+            }
+            Done::Get => Step::Get,
+            Done::Halted(end) => end.answer(),
+            Done::Trapped(cause) => Step::Trap {
+                cause,
+                pc: self.hart.pc(),
+            },
+        }
+    }
+
+    /// Carries out the instruction at the program counter. A byte that is put is the caller's to
+    /// put; at a call for a byte the machine waits until `give` gives one. A machine that ended,
+    /// raised, stopped for room or trapped answers the same again and retires nothing. It takes no
+    /// memory. docs/MACHINE.md has the instructions and the causes of traps.
+    pub fn step(&mut self) -> Step
+        ensures answer { result ≡ (step_of self.old).answer }
+        ensures later { self.new ≡ (step_of self.old).later }
+    {
+        match self.status {
+            Status::Running => self.carry_out(),
+            Status::Stopped(end) => end.answer(),
+            Status::Trapped { cause, pc } => Step::Trap { cause, pc },
+        }
+    }
+
+    /// Whether the machine runs and the instruction at the program counter asks for a byte.
+    pub fn waiting(&self) -> bool
+        ensures { IsTrue result ↔ IsWaiting self.now.machine }
+    {
+        match self.status {
+            Status::Running => self.hart.asks(),
+            Status::Stopped(_) => false,
+            Status::Trapped { .. } => false,
+        }
+    }
+
+    /// Gives a waiting machine the next byte of the input, or `None` at its end, and retires the
+    /// instruction that asked for it.
+    pub fn give(&mut self, byte: Option<u8>)
+        requires { IsWaiting self.old.machine }
+        ensures { self.new ≡ given byte self.old }
+    {
+        self.retire_get(byte);
+    }
+
+    /// How many instructions the machine retired since it was loaded; the count stays at the
+    /// greatest `u64` once there.
+    pub fn retired(&self) -> u64
+        ensures { result ≡ self.now.retired }
+    {
+        self.retired
+    }
+
+    /// The program counter.
+    pub fn pc(&self) -> u32
+        ensures { result ≡ self.now.machine.state.pc }
+    {
+        self.hart.pc()
+    }
+
+    /// The word in a register.
+    pub fn register(&self, k: u32) -> u32
+        requires { k < 32 }
+        ensures { result ≡ reg self.now.machine.state.regs k }
+    {
+        self.hart.get(k)
     }
 }
