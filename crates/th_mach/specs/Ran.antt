@@ -1,5 +1,5 @@
 -- What a call of `run` does, whatever the streams answer.
-use Rattle.std.specs.Prelude.{◌≡◌, ℕ, ◌+◌, ◌<◌, ◌≤◌, min, List, [], ◌∷◌, ◌++◌, length, Option, Some, None, option_map, true, ◌⊎◌}
+use Rattle.std.specs.Prelude.{◌≡◌, ℕ, zero, suc, ◌<◌, ◌≤◌, List, [], ◌∷◌, ◌++◌, length, Option, Some, None, option_map, true, ◌⊎◌}
 use Rattle.th_world.specs.Event.{puts}
 use Rattle.th_world.specs.Outside.{Rose}
 use Rattle.th_rv.specs.declared.instr.Cause.{Cause}
@@ -8,7 +8,7 @@ use Rattle.th_rv.specs.Step.{step}
 use Rattle.th_elf.specs.Run.{Machine, Status, Running, Stopped, Trapped, Retired, Retires, Trapping, Takes, trace, no_names}
 use Rattle.th_mach.specs.declared.answer.Outcome.{Outcome}
 use Rattle.th_mach.specs.declared.answer.Outcome.TheVariants.{Ended, Raised, RoomUsed, StepsUsed, Trap, ReadFault, WriteFault}
-use Rattle.th_mach.specs.Counted.{Counted, is_put, is_get}
+use Rattle.th_mach.specs.Counted.{Counted, next_count, is_put, is_get}
 
 -- the outcome for each way to come to an end
 abbrev pub outcome_of : halt.Halt → Outcome
@@ -33,12 +33,17 @@ TakesTold None log (Some rest) = ⊥
 TakesTold (Some left) log None = ⊥
 TakesTold (Some left) log (Some rest) = Takes left log rest
 
+-- the count after so many more instructions; it stays at the greatest 64-bit number
+abbrev pub count_after : ℕ → ℕ → ℕ
+count_after n zero = n
+count_after n (suc k) = next_count (count_after n k)
+
 -- the instructions of a log, the newest first, are retired without a fault of a stream
 pub record Retiring (before : Seen) (log : List Retired) (later : Seen) : Type 0 where
   -- each is what the definition of the machine retires next
   pub retires : Retires before.machine log later.machine
-  -- the count grows by each of them, up to the greatest 64-bit number
-  pub count : later.retired ≡ min (before.retired + length log) 18446744073709551615
+  -- each is counted
+  pub count : later.retired ≡ count_after before.retired (length log)
   -- the bytes put are those that the log put, in order, after the earlier ones
   pub put : later.put ≡ option_map (λ bytes. bytes ++ puts (trace no_names log)) before.put
   -- the bytes taken are those that the log took

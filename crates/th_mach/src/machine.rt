@@ -2,9 +2,9 @@
 
 ghost use Rattle.std.specs.Prelude.{◌≡◌, ◌<◌, ◌↔◌, ℕ, true, IsTrue};
 ghost use Rattle.th_rv.specs.Step.{reg, with_reg, step};
-ghost use Rattle.th_elf.specs.Run.{Running, with_a0};
+ghost use Rattle.th_elf.specs.Run.{Running, with_a0, no_byte};
 ghost use Rattle.th_mach.specs.Done.{act_of};
-ghost use Rattle.th_mach.specs.Counted.{retire, stepped, step_of, word_of, given, IsWaiting};
+ghost use Rattle.th_mach.specs.Counted.{retire, stepped, step_of, given, IsWaiting};
 ghost use Rattle.th_mach.specs.Status.{status_of, later_of};
 
 use crate::answer::Step;
@@ -75,13 +75,30 @@ impl Machine {
         self.retired = self.retired.saturating_add(1);
     }
 
-    /// Retires an instruction that took a byte, or found the end of the input.
-    pub(crate) fn retire_get(&mut self, byte: Option<u8>)
+    /// Retires an instruction that asked for a byte, with this word in a0.
+    fn retire_get(&mut self, word: u32)
         requires { self.old.machine.status ≡ Running }
-        ensures { self.new ≡ retire self.old (with_a0 (with_reg self.old.machine.state 0 0) (word_of byte)) Running }
+        ensures { self.new ≡ retire self.old (with_a0 (with_reg self.old.machine.state 0 0) word) Running }
     {
-        self.hart.take(byte.map_or(u32::MAX, u32::from));
+        self.hart.take(word);
         self.retired = self.retired.saturating_add(1);
+    }
+
+    /// Retires an instruction that took a byte.
+    pub(crate) fn retire_take(&mut self, byte: u8)
+        requires { self.old.machine.status ≡ Running }
+        ensures taken { self.new ≡ retire self.old (with_a0 (with_reg self.old.machine.state 0 0) byte) Running }
+        ensures small { byte < 256 }
+    {
+        self.retire_get(u32::from(byte));
+    }
+
+    /// Retires an instruction that found the end of the input.
+    pub(crate) fn retire_end(&mut self)
+        requires { self.old.machine.status ≡ Running }
+        ensures { self.new ≡ retire self.old (with_a0 (with_reg self.old.machine.state 0 0) no_byte) Running }
+    {
+        self.retire_get(u32::MAX);
     }
 
     /// One instruction of a machine that runs.
@@ -137,7 +154,10 @@ impl Machine {
         requires { IsWaiting self.old.machine }
         ensures { self.new ≡ given byte self.old }
     {
-        self.retire_get(byte);
+        match byte {
+            Some(byte) => self.retire_take(byte),
+            None => self.retire_end(),
+        }
     }
 
     /// How many instructions the machine retired since it was loaded; the count stays at the

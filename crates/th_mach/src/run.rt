@@ -55,8 +55,12 @@ impl Machine {
                 Err(_) => Some(Outcome::WriteFault),
             },
             Done::Get => match input.next() {
-                Ok(byte) => {
-                    self.retire_get(byte);
+                Ok(Some(byte)) => {
+                    self.retire_take(byte);
+                    None
+                }
+                Ok(None) => {
+                    self.retire_end();
                     None
                 }
                 Err(_) => Some(Outcome::ReadFault),

@@ -1,8 +1,18 @@
-use Rattle.std.proofs.Common.{◌≡◌, ap, sym, ◌∙◌}
-use Rattle.th_rv.specs.Step.{with_reg}
-use Rattle.th_mach.specs.Counted.{word_of, given_by}
+use Rattle.std.proofs.Common.{◌≡◌, Some, None, ap, sym, ◌∙◌}
+use Rattle.th_rv.specs.Step.{step}
+use Rattle.th_elf.specs.Run.{no_byte}
+use Rattle.th_mach.specs.Counted.{word_of, given_by, given}
 use Rattle.th_mach.proofs.Gets.{step_is}
 use Rattle.th_mach.proofs.machine.Machine.give.Goals as goal
 
-pub returns : goal.returns
-returns c = c.retire_get.ensures ∙ sym (ap (λ a. given_by a (word_of c.args.byte) c.args.self.now) (step_is c.args.self.now.machine.state c.requires.1))
+pub returns-in-Some : goal.returns-in-Some
+returns-in-Some c =
+    c.retire_take.ensures.taken
+    ∙ sym (ap (λ a. given_by a c.in-Some.byte c.args.self.now) (step_is c.args.self.now.machine.state c.requires.1))
+    ∙ ap (λ o. given o c.args.self.now) (sym c.in-Some.is)
+
+pub returns-in-None : goal.returns-in-None
+returns-in-None c =
+    c.retire_end.ensures
+    ∙ sym (ap (λ a. given_by a no_byte c.args.self.now) (step_is c.args.self.now.machine.state c.requires.1))
+    ∙ ap (λ o. given o c.args.self.now) (sym c.in-None.is)
