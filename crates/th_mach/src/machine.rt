@@ -1,16 +1,20 @@
 //! The machine: a hart, how it stands, and the count of the instructions that it retired.
 
-ghost use Rattle.std.specs.Prelude.{◌≡◌, ◌<◌, ◌↔◌, ℕ, true, IsTrue};
+ghost use Rattle.std.specs.Prelude.{◌≡◌, ◌<◌, ◌≤◌, ◌↔◌, ℕ, IsTrue, IfOk};
 ghost use Rattle.th_rv.specs.Step.{reg, with_reg, step};
-ghost use Rattle.th_elf.specs.Run.{Running, with_a0, no_byte};
+ghost use Rattle.th_elf.specs.Run.{Running, with_a0, no_byte, first_regs, loaded};
+ghost use Rattle.th_elf.specs.Lawful.{AreLawful};
 ghost use Rattle.th_mach.specs.Done.{act_of};
-ghost use Rattle.th_mach.specs.Counted.{retire, stepped, step_of, given, IsWaiting};
+ghost use Rattle.th_mach.specs.Counted.{IsRegion, fresh, retire, stepped, step_of, given, IsWaiting};
 ghost use Rattle.th_mach.specs.Status.{status_of, later_of};
 
 use crate::answer::Step;
 use crate::hart::{Done, Halt, Hart};
+use crate::memory::{REGION, areas_of};
+use std::alloc::{AllocError, Global};
 use std::marker::Model;
-use th_rv::{Cause, Instr};
+use th_elf::Segments;
+use th_rv::Cause;
 
 /// How a machine stands.
 #[derive(Clone, Copy, PartialEq, Eq, Debug)]
@@ -40,7 +44,35 @@ impl Model for Machine {
     ghost view = { λ m. record { machine = record { state = m.hart; status = status_of m.status }; retired = m.retired } };
 }
 
+/// The registers at the start, with a region of so many bytes.
+#[tactic(auto, unfolding(th_elf::specs::Run::first_regs))]
+fn first_regs(region: u32) -> [u32; 32]
+    requires { region ≤ 67108864 }
+    ensures { result ≡ first_regs region }
+{
+    let mut regs = [0; 32];
+    regs[10] = REGION;
+    regs[11] = REGION + region;
+    regs
+}
+
 impl Machine {
+    /// The machine at its start (docs/MACHINE.md): the segments and a region of so many bytes in
+    /// memory, the program counter at the entry. `Err` is want of memory.
+    #[tactic(auto, unfolding(th_elf::specs::Run::loaded))]
+    pub fn load(alloc: Global, segments: &Segments, region: u32) -> Result<Machine, AllocError>
+        requires region { IsRegion region }
+        requires segments { AreLawful segments.now.list }
+        ensures { IfOk result (λ m. m ≡ fresh (loaded segments.now region)) }
+    {
+        let areas = areas_of(alloc, segments.list.as_slice(), region)?;
+        Ok(Machine {
+            hart: Hart::new(segments.entry, first_regs(region), areas),
+            status: Status::Running,
+            retired: 0,
+        })
+    }
+
     /// Carries out the instruction at the program counter of a machine that runs, but puts no
     /// byte and takes none.
     pub(crate) fn proceed(&mut self) -> Done

@@ -1,9 +1,15 @@
 //! Memory: areas of bytes at addresses.
 
-ghost use Rattle.std.specs.Prelude.{◌≡◌, ◌<◌, ◌+◌, ◌≤◌, ◌-◌, ◌*◌, ◌/◌, ◌%◌, ◌^◌, ℕ, length, IsTrue, cond, slice_get, None, true, is_some, IfSome};
+ghost use Rattle.std.specs.Prelude.{◌≡◌, ◌<◌, ◌≤◌, ◌-◌, ◌^◌, ℕ, [], ◌∷◌, ◌++◌, length, map, All, IsTrue, IfOk, cond, slice_get, is_some, IfSome};
+ghost use Rattle.th_elf.specs.Run.{area_of, region};
 ghost use Rattle.th_rv.specs.Memory.{has, allows, byte_at, put_at, area_set, number_at, put_number, bytes_at};
 
+use std::alloc::{AllocError, Global};
 use std::marker::Model;
+use th_elf::Segment;
+
+/// The first address of the region.
+pub(crate) const REGION: u32 = 0x1000_0000;
 
 /// A run of bytes from an address on. The flags are a sum of 1 (fetched from), 2 (stored to) and
 /// 4 (loaded from).
@@ -23,10 +29,36 @@ impl Model for Area {
 }
 
 impl Area {
-    pub(crate) fn new(at: u32, flags: u32, bytes: Vec<u8>) -> Area
-        ensures { result ≡ record { at = at; flags = flags; bytes = bytes.items } }
+    /// The memory of a segment: its bytes, then zeros up to its size.
+    #[tactic(auto, unfolding(th_elf::specs::Run::area_of))]
+    fn of_segment(alloc: Global, segment: &Segment) -> Result<Area, AllocError>
+        requires { length segment.now.bytes ≤ segment.now.size }
+        ensures { IfOk result (λ area. area ≡ area_of segment.now) }
     {
-        Area { at, flags, bytes }
+        let size = segment.size as usize;
+        let mut bytes = Vec::with_capacity(alloc, size)?;
+        bytes.extend_from_slice(segment.bytes.as_slice())?;
+        bytes.resize(size, 0)?;
+        Ok(Area {
+            at: segment.at,
+            flags: segment.flags,
+            bytes,
+        })
+    }
+
+    /// The region: zeros that are stored to and loaded from.
+    #[tactic(auto, unfolding(th_elf::specs::Run::region))]
+    fn of_region(alloc: Global, room: u32) -> Result<Area, AllocError>
+        ensures { IfOk result (λ area. area ≡ region room) }
+    {
+        let size = room as usize;
+        let mut bytes = Vec::with_capacity(alloc, size)?;
+        bytes.resize(size, 0)?;
+        Ok(Area {
+            at: REGION,
+            flags: 6,
+            bytes,
+        })
     }
 
     /// Whether the area has the address.
@@ -73,6 +105,19 @@ impl Area {
         let first = u64::from(self.at);
         self.bytes[(at - first) as usize] = value;
     }
+}
+
+/// The memory of segments, in their order, and of a region.
+pub(crate) fn areas_of(alloc: Global, segments: &[Segment], room: u32) -> Result<Vec<Area>, AllocError>
+    requires { All (λ s. length s.bytes ≤ s.size) segments.now }
+    ensures { IfOk result (λ areas. areas.items ≡ map area_of segments.now ++ region room ∷ []) }
+{
+    let mut areas = Vec::new(alloc);
+    for segment in segments {
+        areas.push(Area::of_segment(alloc, segment)?)?;
+    }
+    areas.push(Area::of_region(alloc, room)?)?;
+    Ok(areas)
 }
 
 /// The byte at an address, where the flag allows it.
