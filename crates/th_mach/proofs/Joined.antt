@@ -1,15 +1,18 @@
 -- Two parts of a run, one after the other.
-use Rattle.std.proofs.Common.{◌≡◌, ℕ, zero, suc, ◌+◌, ◌<◌, ◌≤◌, List, [], ◌∷◌, ◌++◌, length, Option, Some, None, refl, sym, ap, ◌∙◌, subst, ◌⊎◌, inl, inr, ⊎_elim, append_assoc, append-nil, length-append, add-one, arith}
+use Rattle.std.proofs.Common.{◌≡◌, ℕ, zero, suc, ◌+◌, ◌<◌, ◌≤◌, List, [], ◌∷◌, ◌++◌, length, Option, Some, None, refl, sym, ap, ◌∙◌, subst, ◌⊎◌, inl, inr, ⊎_elim, append_assoc, append-nil, length-append, add-one, zero-add, add-zero, min, map, arith}
 use Rattle.std.specs.Prelude.{option_map, option_to_list}
 use Rattle.std.proofs.lemmas.Bool.{cases_eq}
+use Rattle.std.proofs.lemmas.List.{map-append}
 use Rattle.th_world.specs.Event.{Event, Put, Took, FoundEnd, Entered, puts}
+use Rattle.th_watch.specs.Watch.{Watch, after}
+use Rattle.th_watch.proofs.AfterLemmas.{after-append}
 use Rattle.th_elf.specs.Run.{Machine, Status, Running, Stopped, Trapped, Retired, Did, Retires, Trapping, Takes, TakesOne, trace, no_names}
 use Rattle.th_rv.specs.declared.instr.Cause.{Cause}
 use Rattle.th_rv.specs.Step as halt
 use Rattle.th_mach.specs.declared.answer.Outcome.{Outcome}
 use Rattle.th_mach.specs.declared.answer.Outcome.TheVariants.{Ended, Raised, RoomUsed, StepsUsed, Trap, ReadFault, WriteFault}
-use Rattle.th_mach.specs.Counted.{next_count}
-use Rattle.th_mach.specs.Ran.{Seen, TakesTold, count_after, Retiring, TrapsNow, Ends, Ran, IsOver, Turned, outcome_of, outcome_by}
+use Rattle.th_mach.proofs.Turns.{still}
+use Rattle.th_mach.specs.Ran.{Seen, TakesTold, count_after, pcs, Retiring, TrapsNow, Ends, Ran, IsOver, Turned, outcome_of, outcome_by}
 
 retires_join : (a b : Machine) (first later : List Retired) (c : Machine) → Retires a first b → Retires b later c → Retires a (later ++ first) c
 retires_join a b first [] c r q = subst (λ m. Retires a first m) q r
@@ -47,15 +50,30 @@ put_join (Some a) b c first later p q =
     q ∙ ap (λ o. option_map (λ bytes. bytes ++ puts (trace no_names later)) o) p
     ∙ ap Some (append_assoc a (puts (trace no_names first)) (puts (trace no_names later)) ∙ ap (λ l. a ++ l) (sym (bytes-append first later)))
 
-count_join : (n : ℕ) (first later : List Retired) → count_after (count_after n (length first)) (length later) ≡ count_after n (length (later ++ first))
-count_join n first [] = refl
-count_join n first (e ∷ later) = ap next_count (count_join n first later)
+count_some : (n k : ℕ) → 0 < k → count_after n k ≡ min (n + k) 18446744073709551615
+count_some n zero some = absurd (omega arith)
+count_some n (suc k) some = refl
+
+cut_twice : (n j k limit : ℕ) → min (min (n + k) limit + j) limit ≡ min (n + (j + k)) limit
+cut_twice n j k limit = omega arith
+
+count_join : (n j k : ℕ) → count_after (count_after n k) j ≡ count_after n (j + k)
+count_join n zero k = rw zero-add refl
+count_join n (suc j) zero = rw add-zero refl
+count_join n (suc j) (suc k) = cut_twice n (suc j) (suc k) 18446744073709551615 ∙ sym (count_some n (suc j + suc k) (omega arith))
+
+watches_join : (first later : List Retired) (ws : List Watch) → map (λ w. after w (pcs later)) (map (λ w. after w (pcs first)) ws) ≡ map (λ w. after w (pcs (later ++ first))) ws
+watches_join first later [] = refl
+watches_join first later (w ∷ ws) =
+    let one : after (after w (pcs first)) (pcs later) ≡ after w (pcs (later ++ first)) = after-append w (pcs later) (pcs first) ∙ ap (λ l. after w l) (sym (map-append (λ e. e.pc) later first)) in
+    ap (λ v. v ∷ map (λ w. after w (pcs later)) (map (λ w. after w (pcs first)) ws)) one ∙ ap (λ vs. after w (pcs (later ++ first)) ∷ vs) (watches_join first later ws)
 
 -- the instructions of two logs, one after the other
 pub retiring_join : (a b c : Seen) (first later : List Retired) → Retiring a first b → Retiring b later c → Retiring a (later ++ first) c
 retiring_join a b c first later r q = record {
   retires = retires_join a.machine b.machine first later c.machine r.retires q.retires;
-  count = q.count ∙ ap (λ n. count_after n (length later)) r.count ∙ count_join a.retired first later;
+  count = q.count ∙ ap (λ n. count_after n (length later)) r.count ∙ count_join a.retired (length later) (length first) ∙ ap (λ k. count_after a.retired k) (sym (length-append later first));
+  watches = q.watches ∙ ap (λ vs. map (λ w. after w (pcs later)) vs) r.watches ∙ watches_join first later a.watches;
   put = put_join a.put b.put c.put first later r.put q.put;
   left = told_join a.left b.left c.left first later r.left q.left;
   read_faults = q.read_faults ∙ r.read_faults;
@@ -89,6 +107,10 @@ none_retired a (x ∷ log) b e r = absurd (omega (arith, e))
 -- a run so far: so many instructions are retired, and after the first of them the machine runs
 abbrev pub Far : ℕ → Seen → Seen → Type 0
 Far n a b = (log : List Retired) × (length log ≡ n) × Retiring a log b × (0 < n → b.machine.status ≡ Running)
+
+-- a run that begins
+pub not_yet : (s : Seen) → Far 0 s s
+not_yet s = ([], refl, still s, λ some. absurd (omega (arith, some)))
 
 -- a run so far, and the turn that ends it
 pub over_join : (steps n : ℕ) (a b c : Seen) (o : Outcome) → Far n a b → n < steps → Turned b (Some o) c → Ran steps a o c

@@ -1,14 +1,15 @@
 -- What a call of `run` does, whatever the streams answer.
-use Rattle.std.specs.Prelude.{◌≡◌, ℕ, zero, suc, ◌<◌, ◌≤◌, List, [], ◌∷◌, ◌++◌, length, Option, Some, None, option_map, true, ◌⊎◌}
+use Rattle.std.specs.Prelude.{◌≡◌, ℕ, zero, suc, ◌+◌, ◌<◌, ◌≤◌, min, List, [], ◌∷◌, ◌++◌, length, map, Option, Some, None, option_map, true, ◌⊎◌}
 use Rattle.th_world.specs.Event.{puts}
 use Rattle.th_world.specs.Outside.{Rose}
+use Rattle.th_watch.specs.Watch.{Watch, after}
 use Rattle.th_rv.specs.declared.instr.Cause.{Cause}
 use Rattle.th_rv.specs.Step as halt
 use Rattle.th_rv.specs.Step.{step}
 use Rattle.th_elf.specs.Run.{Machine, Status, Running, Stopped, Trapped, Retired, Retires, Trapping, Takes, trace, no_names}
 use Rattle.th_mach.specs.declared.answer.Outcome.{Outcome}
 use Rattle.th_mach.specs.declared.answer.Outcome.TheVariants.{Ended, Raised, RoomUsed, StepsUsed, Trap, ReadFault, WriteFault}
-use Rattle.th_mach.specs.Counted.{Counted, next_count, is_put, is_get}
+use Rattle.th_mach.specs.Counted.{Counted, is_put, is_get}
 
 -- the outcome for each way to come to an end
 abbrev pub outcome_of : halt.Halt → Outcome
@@ -16,8 +17,8 @@ outcome_of halt.Ended = Ended
 outcome_of (halt.Raised at length) = Raised at length
 outcome_of halt.RoomUsed = RoomUsed
 
--- the machine, its count of retired instructions, and what its streams tell: the bytes put, the bytes left (none
--- where they aren't told), and the counts of faults
+-- the machine, its count of retired instructions, what its streams tell (the bytes put, the bytes left, none where
+-- they aren't told, and the counts of faults), and what its watchers mean
 pub record Seen : Type 0 where
   pub machine : Machine
   pub retired : ℕ
@@ -25,6 +26,7 @@ pub record Seen : Type 0 where
   pub left : Option (List ℕ)
   pub read_faults : ℕ
   pub write_faults : ℕ
+  pub watches : List Watch
 
 -- the bytes that a log took are the first of those that were left, where both are told
 abbrev pub TakesTold : Option (List ℕ) → List Retired → Option (List ℕ) → Type 0
@@ -36,7 +38,11 @@ TakesTold (Some left) log (Some rest) = Takes left log rest
 -- the count after so many more instructions; it stays at the greatest 64-bit number
 abbrev pub count_after : ℕ → ℕ → ℕ
 count_after n zero = n
-count_after n (suc k) = next_count (count_after n k)
+count_after n (suc k) = min (n + suc k) 18446744073709551615
+
+-- the addresses of the instructions of a log
+abbrev pub pcs : List Retired → List ℕ
+pcs log = map (λ e. e.pc) log
 
 -- the instructions of a log, the newest first, are retired without a fault of a stream
 pub record Retiring (before : Seen) (log : List Retired) (later : Seen) : Type 0 where
@@ -48,6 +54,8 @@ pub record Retiring (before : Seen) (log : List Retired) (later : Seen) : Type 0
   pub put : later.put ≡ option_map (λ bytes. bytes ++ puts (trace no_names log)) before.put
   -- the bytes taken are those that the log took
   pub left : TakesTold before.left log later.left
+  -- each watcher counts those in its span
+  pub watches : later.watches ≡ map (λ w. after w (pcs log)) before.watches
   -- no stream's count of faults changes
   pub read_faults : later.read_faults ≡ before.read_faults
   pub write_faults : later.write_faults ≡ before.write_faults
@@ -95,9 +103,9 @@ pub record Ran (steps : ℕ) (before : Seen) (outcome : Outcome) (later : Seen) 
   pub retiring : Retiring before log middle
   pub ends : Ends outcome (length log) steps middle later
 
--- the machine and what its streams tell
-abbrev pub seen : Counted → (put left : Option (List ℕ)) → (read_faults write_faults : ℕ) → Seen
-seen c put left read_faults write_faults = record { machine = c.machine; retired = c.retired; put = put; left = left; read_faults = read_faults; write_faults = write_faults }
+-- the machine, what its streams tell, and what its watchers mean
+abbrev pub seen : Counted → (put left : Option (List ℕ)) → (read_faults write_faults : ℕ) → List Watch → Seen
+seen c put left read_faults write_faults watches = record { machine = c.machine; retired = c.retired; put = put; left = left; read_faults = read_faults; write_faults = write_faults; watches = watches }
 
 -- the outcome of a machine that retires nothing more in a call
 abbrev pub outcome_by : Status → Outcome
