@@ -128,17 +128,3 @@ over_join steps n a b c o (first, size, r, runs) lt (ran, over) =
 pub goes_join : (n : ℕ) (a b c : Seen) → Far n a b → Turned b None c → Far (n + 1) a c
 goes_join n a b c (first, size, r, runs) (e, q, goes_on) =
     (e ∷ first, rw add-one (ap suc size), retiring_join a b c first (e ∷ []) r q, λ some. goes_on)
-
--- a run whose steps are used up, or that retired nothing since the machine had stopped
-pub used_up : (steps n : ℕ) (a b : Seen) (o : Outcome) → n ≡ steps → Far n a b → o ≡ outcome_by b.machine.status → Ran steps a o b
-used_up steps n a b o all (log, size, r, runs) tells = subst (λ x. Ran steps a x b) (sym tells) (by_status b.machine.status refl)
-  where
-    by_end : (h : halt.Halt) → b.machine.status ≡ Stopped h → Ran steps a (outcome_of h) b
-    by_end halt.Ended e = record { log = log; middle = b; retiring = r; ends = (refl, e, omega (arith, size, all)) }
-    by_end (halt.Raised at k) e = record { log = log; middle = b; retiring = r; ends = (refl, e, omega (arith, size, all)) }
-    by_end halt.RoomUsed e = record { log = log; middle = b; retiring = r; ends = (refl, e, omega (arith, size, all)) }
-
-    by_status : (s : Status) → b.machine.status ≡ s → Ran steps a (outcome_by s) b
-    by_status Running e = record { log = log; middle = b; retiring = r; ends = (refl, e, size ∙ all) }
-    by_status (Stopped h) e = by_end h e
-    by_status (Trapped cause pc) e = record { log = log; middle = b; retiring = r; ends = (e, inl (refl, ⊎_elim (λ none. size ∙ none) (λ some. absurd (running_trapped cause pc (sym (runs (omega arith)) ∙ e))) (cases_eq n 0))) }

@@ -1,7 +1,8 @@
 //! The hart: program counter, registers and memory, and what each instruction does to them.
 
-ghost use Rattle.std.specs.Prelude.{◌≡◌, ◌<◌, ◌≤◌, ◌^◌, ℕ, cond, IfOk, IfErr};
+ghost use Rattle.std.specs.Prelude.{◌≡◌, ◌<◌, ◌≤◌, ◌^◌, ℕ, cond, option_map, IfOk, IfErr};
 ghost use Rattle.th_rv.specs.Step.{Traps, step, reg, with_reg, address, jump, branch, load, store, whole, environment_call, raise, execute};
+ghost use Rattle.th_rv.specs.Memory.{number_at, bytes_at};
 ghost use Rattle.th_rv.specs.Table.{Valid};
 ghost use Rattle.th_elf.specs.Run.{with_a0};
 ghost use Rattle.th_word.specs.Word.{extend_8 as signed_8, extend_16 as signed_16};
@@ -11,7 +12,8 @@ ghost use Rattle.th_mach.specs.Ran.{outcome_of};
 ghost use Rattle.th_mach.specs.Group.{group};
 
 use crate::answer::{Outcome, Step};
-use crate::memory::{Area, are_loadable, byte_in, half_in, put_half_in, put_in, put_word_in, word_in};
+use crate::memory::{Area, LONGEST_NAME, byte_in, bytes_in, half_in, put_half_in, put_in, put_word_in, word_in};
+use arrayvec::ArrayVec;
 use std::marker::Model;
 use th_rv::{Cause, Instr, decode};
 use th_word::{
@@ -156,6 +158,21 @@ impl Hart {
     {
         self.regs[10] = word;
         self.pc = add(self.pc, 4);
+    }
+
+    /// So many bytes from an address on; none where one of them can't be loaded.
+    pub(crate) fn bytes(&self, at: u32, length: u32) -> Option<ArrayVec<u8, LONGEST_NAME>>
+        requires { length ≤ LONGEST_NAME }
+        ensures { option_map (λ bytes. bytes.items) result ≡ bytes_at length self.now.areas at }
+    {
+        bytes_in(&self.areas, at, length)
+    }
+
+    /// The word at an address; none where it can't be loaded.
+    pub(crate) fn word(&self, at: u32) -> Option<u32>
+        ensures { result ≡ number_at 4 4 self.now.areas at }
+    {
+        word_in(&self.areas, 4, u64::from(at))
     }
 
     /// A register.
@@ -498,10 +515,9 @@ impl Hart {
     {
         let at = self.regs[10];
         let length = self.regs[11];
-        if length <= 129 && are_loadable(&self.areas, at, length) {
-            self.halt(Halt::Raised { at, length })
-        } else {
-            Done::Trapped(Cause::Ecall)
+        if length > 129 || bytes_in(&self.areas, at, length).is_none() {
+            return Done::Trapped(Cause::Ecall);
         }
+        self.halt(Halt::Raised { at, length })
     }
 }

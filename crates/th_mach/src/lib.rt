@@ -9,3 +9,4 @@ mod run;
 
 pub use answer::{Outcome, Step};
 pub use machine::Machine;
+pub use memory::LONGEST_NAME;

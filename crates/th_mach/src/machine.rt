@@ -1,6 +1,7 @@
 //! The machine: a hart, how it stands, and the count of the instructions that it retired.
 
-ghost use Rattle.std.specs.Prelude.{◌≡◌, ◌<◌, ◌≤◌, ◌↔◌, ℕ, IsTrue, IfOk};
+ghost use Rattle.std.specs.Prelude.{◌≡◌, ◌<◌, ◌≤◌, ◌↔◌, ◌%◌, ℕ, None, IsTrue, IfOk, nat_eq, cond, option_map};
+ghost use Rattle.th_rv.specs.Memory.{number_at, bytes_at};
 ghost use Rattle.th_rv.specs.Step.{reg, with_reg, step};
 ghost use Rattle.th_elf.specs.Run.{Running, with_a0, no_byte, first_regs, loaded};
 ghost use Rattle.th_elf.specs.Lawful.{AreLawful};
@@ -10,7 +11,8 @@ ghost use Rattle.th_mach.specs.Status.{status_of, later_of};
 
 use crate::answer::Step;
 use crate::hart::{Done, Halt, Hart};
-use crate::memory::{REGION, areas_of};
+use crate::memory::{LONGEST_NAME, REGION, areas_of};
+use arrayvec::ArrayVec;
 use std::alloc::{AllocError, Global};
 use std::marker::Model;
 use th_elf::Segments;
@@ -213,5 +215,25 @@ impl Machine {
         ensures { result ≡ reg self.now.machine.state.regs k }
     {
         self.hart.get(k)
+    }
+
+    /// The word at an address; `None` exactly where the address isn't a multiple of 4 or a byte of
+    /// the word can't be loaded.
+    pub fn word(&self, at: u32) -> Option<u32>
+        ensures { result ≡ cond (nat_eq (at % 4) 0) (number_at 4 4 self.now.machine.state.areas at) None }
+    {
+        if at % 4 != 0 {
+            return None;
+        }
+        self.hart.word(at)
+    }
+
+    /// The bytes of an exception's name, `length` of them from `at` on; `None` exactly where one of
+    /// them can't be loaded. They may lie in several segments, so they are copied.
+    pub fn name(&self, at: u32, length: u32) -> Option<ArrayVec<u8, LONGEST_NAME>>
+        requires { length ≤ LONGEST_NAME }
+        ensures { option_map (λ bytes. bytes.items) result ≡ bytes_at length self.now.machine.state.areas at }
+    {
+        self.hart.bytes(at, length)
     }
 }

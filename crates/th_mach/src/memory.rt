@@ -1,15 +1,19 @@
 //! Memory: areas of bytes at addresses.
 
-ghost use Rattle.std.specs.Prelude.{◌≡◌, ◌<◌, ◌≤◌, ◌-◌, ◌^◌, ℕ, [], ◌∷◌, ◌++◌, length, map, All, IsTrue, IfOk, cond, slice_get, is_some, IfSome};
+ghost use Rattle.std.specs.Prelude.{◌≡◌, ◌<◌, ◌≤◌, ◌-◌, ◌^◌, ℕ, [], ◌∷◌, ◌++◌, length, map, All, IsTrue, IfOk, cond, slice_get, option_map, IfSome};
 ghost use Rattle.th_elf.specs.Run.{area_of, region};
 ghost use Rattle.th_rv.specs.Memory.{has, allows, byte_at, put_at, area_set, number_at, put_number, bytes_at};
 
+use arrayvec::ArrayVec;
 use std::alloc::{AllocError, Global};
 use std::marker::Model;
 use th_elf::Segment;
 
 /// The first address of the region.
 pub(crate) const REGION: u32 = 0x1000_0000;
+
+/// The greatest length of an exception's name, in bytes.
+pub const LONGEST_NAME: usize = 129;
 
 /// A run of bytes from an address on. The flags are a sum of 1 (fetched from), 2 (stored to) and
 /// 4 (loaded from).
@@ -159,16 +163,17 @@ pub(crate) fn word_in(areas: &[Area], flag: u32, at: u64) -> Option<u32>
     Some(u32::from(first) + 256 * (u32::from(second) + 256 * high))
 }
 
-/// Whether each of so many bytes from an address on can be loaded.
-pub(crate) fn are_loadable(areas: &[Area], at: u32, length: u32) -> bool
-    ensures { result ≡ is_some (bytes_at length areas.now at) }
+/// So many bytes from an address on; none where one of them can't be loaded.
+pub(crate) fn bytes_in(areas: &[Area], at: u32, length: u32) -> Option<ArrayVec<u8, LONGEST_NAME>>
+    requires { length ≤ LONGEST_NAME }
+    ensures { option_map (λ bytes. bytes.items) result ≡ bytes_at length areas.now at }
 {
+    let mut bytes = ArrayVec::new();
     for i in 0..u64::from(length) {
-        if byte_in(areas, 4, u64::from(at) + i).is_none() {
-            return false;
-        }
+        let byte = byte_in(areas, 4, u64::from(at) + i)?;
+        bytes.push(byte);
     }
-    true
+    Some(bytes)
 }
 
 /// Puts a byte at an address, where an area has it.
