@@ -6,7 +6,7 @@ use Rattle.th_rv.specs.declared.instr.Instr.TheVariants.{Jal, Jalr, Beq, Bne, Bl
 use Rattle.th_rv.specs.declared.instr.Cause.TheVariants as cause
 use Rattle.th_rv.specs.Memory.{number_at, bytes_at}
 use Rattle.th_rv.specs.Table.{decode}
-use Rattle.th_rv.specs.Step.{State, Act, Next, Puts, Gets, Halts, Traps, Ended, RoomUsed, Raised, reg, with_reg, address, whole, jumped, jump, branch, load, into_reg, store, into_memory, raise, raise_named, environment_call, execute, execute_found, execute_word, step}
+use Rattle.th_rv.specs.Step.{State, Act, Next, Gets, Halts, Traps, Ended, RoomUsed, reg, with_reg, address, whole, jumped, jump, branch, load, into_reg, store, into_memory, raise, raise_named, environment_call, execute, execute_found, execute_word, step}
 use Rattle.th_word.specs.Word.{extend_8, extend_16}
 use Rattle.th_mach.specs.Counted.{is_get}
 
@@ -56,8 +56,8 @@ later_call_get : (a7 : ℕ) (s : State) → is_get (later_call a7 s) ≡ false
 unfolding later_call
 later_call_get a7 s =
     choice (nat_eq a7 3) (Halts Ended (with_reg s 0 0)) (cond (nat_eq a7 4) (raise s) (cond (nat_eq a7 5) (Halts RoomUsed (with_reg s 0 0)) (Traps cause.Ecall))) refl
-      (choice (nat_eq a7 4) (raise s) (cond (nat_eq a7 5) (Halts RoomUsed (with_reg s 0 0)) (Traps cause.Ecall)) (raise_get s)
-        (choice (nat_eq a7 5) (Halts RoomUsed (with_reg s 0 0)) (Traps cause.Ecall) refl refl))
+    (choice (nat_eq a7 4) (raise s) (cond (nat_eq a7 5) (Halts RoomUsed (with_reg s 0 0)) (Traps cause.Ecall)) (raise_get s)
+    (choice (nat_eq a7 5) (Halts RoomUsed (with_reg s 0 0)) (Traps cause.Ecall) refl refl))
 
 -- an environment call asks for a byte where a7 is 2
 call_get : (a7 : ℕ) (s : State) → is_get (environment_call a7 s) ≡ nat_eq a7 2

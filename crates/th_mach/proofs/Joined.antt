@@ -1,18 +1,18 @@
 -- Two parts of a run, one after the other.
-use Rattle.std.proofs.Common.{◌≡◌, ℕ, zero, suc, ◌+◌, ◌<◌, ◌≤◌, List, [], ◌∷◌, ◌++◌, length, Option, Some, None, refl, sym, ap, ◌∙◌, subst, ◌⊎◌, inl, inr, ⊎_elim, append_assoc, append-nil, length-append, add-one, zero-add, add-zero, min, map, arith}
+use Rattle.std.proofs.Common.{◌≡◌, ℕ, zero, suc, ◌+◌, ◌<◌, List, [], ◌∷◌, ◌++◌, length, Option, Some, None, refl, sym, ap, ◌∙◌, subst, ◌⊎◌, inl, inr, ⊎_elim, append_assoc, append-nil, length-append, add-one, zero-add, add-zero, min, map, arith}
 use Rattle.std.specs.Prelude.{option_map, option_to_list}
 use Rattle.std.proofs.lemmas.Bool.{cases_eq}
 use Rattle.std.proofs.lemmas.List.{map-append}
 use Rattle.th_world.specs.Event.{Event, Put, Took, FoundEnd, Entered, puts}
 use Rattle.th_watch.specs.Watch.{Watch, after}
 use Rattle.th_watch.proofs.AfterLemmas.{after-append}
-use Rattle.th_elf.specs.Run.{Machine, Status, Running, Stopped, Trapped, Retired, Did, Retires, Trapping, Takes, TakesOne, trace, no_names}
+use Rattle.th_elf.specs.Run.{Machine, Running, Trapped, Retired, Retires, Takes, trace, no_names, Status, Stopped}
 use Rattle.th_rv.specs.declared.instr.Cause.{Cause}
 use Rattle.th_rv.specs.Step as halt
 use Rattle.th_mach.specs.declared.answer.Outcome.{Outcome}
 use Rattle.th_mach.specs.declared.answer.Outcome.TheVariants.{Ended, Raised, RoomUsed, StepsUsed, Trap, ReadFault, WriteFault}
 use Rattle.th_mach.proofs.Turns.{still}
-use Rattle.th_mach.specs.Ran.{Seen, TakesTold, count_after, pcs, Retiring, TrapsNow, Ends, Ran, IsOver, Turned, outcome_of, outcome_by}
+use Rattle.th_mach.specs.Ran.{Seen, TakesTold, count_after, pcs, Retiring, TrapsNow, Ends, Ran, IsOver, Turned, IsPause, Stands, outcome_of, outcome_by}
 
 retires_join : (a b : Machine) (first later : List Retired) (c : Machine) → Retires a first b → Retires b later c → Retires a (later ++ first) c
 retires_join a b first [] c r q = subst (λ m. Retires a first m) q r
@@ -77,7 +77,7 @@ retiring_join a b c first later r q = record {
   put = put_join a.put b.put c.put first later r.put q.put;
   left = told_join a.left b.left c.left first later r.left q.left;
   read_faults = q.read_faults ∙ r.read_faults;
-  write_faults = q.write_faults ∙ r.write_faults
+  write_faults = q.write_faults ∙ r.write_faults;
 }
 
 running_trapped : (cause : Cause) (pc : ℕ) → Running ≡ Trapped cause pc → ⊥
@@ -121,10 +121,46 @@ over_join steps n a b c o (first, size, r, runs) lt (ran, over) =
       log = ran.log ++ first;
       middle = ran.middle;
       retiring = retiring_join a b ran.middle first ran.log r ran.retiring;
-      ends = subst (λ k. Ends o k steps ran.middle c) total (ends_join o n (length ran.log) steps ran.middle c lt over still_runs ran.ends)
+      ends = subst (λ k. Ends o k steps ran.middle c) total (ends_join o n (length ran.log) steps ran.middle c lt over still_runs ran.ends);
     }
 
 -- a run so far, and one more turn
 pub goes_join : (n : ℕ) (a b c : Seen) → Far n a b → Turned b None c → Far (n + 1) a c
 goes_join n a b c (first, size, r, runs) (e, q, goes_on) =
     (e ∷ first, rw add-one (ap suc size), retiring_join a b c first (e ∷ []) r q, λ some. goes_on)
+
+-- a run whose steps are used up, or that retired nothing since the machine had stopped
+pub used_up : (steps n : ℕ) (a b : Seen) (o : Outcome) → n ≡ steps → Far n a b → o ≡ outcome_by b.machine.status → Ran steps a o b
+used_up steps n a b o all (log, size, r, runs) tells = subst (λ x. Ran steps a x b) (sym tells) (by_status b.machine.status refl)
+  where
+    by_end : (h : halt.Halt) → b.machine.status ≡ Stopped h → Ran steps a (outcome_of h) b
+    by_end halt.Ended e = record { log = log; middle = b; retiring = r; ends = (refl, e, omega (arith, size, all)) }
+    by_end (halt.Raised at k) e = record { log = log; middle = b; retiring = r; ends = (refl, e, omega (arith, size, all)) }
+    by_end halt.RoomUsed e = record { log = log; middle = b; retiring = r; ends = (refl, e, omega (arith, size, all)) }
+
+    by_status : (s : Status) → b.machine.status ≡ s → Ran steps a (outcome_by s) b
+    by_status Running e = record { log = log; middle = b; retiring = r; ends = (refl, e, size ∙ all) }
+    by_status (Stopped h) e = by_end h e
+    by_status (Trapped cause pc) e = record { log = log; middle = b; retiring = r; ends = (e, inl (refl, ⊎_elim (λ none. size ∙ none) (λ some. absurd (running_trapped cause pc (sym (runs (omega arith)) ∙ e))) (cases_eq n 0))) }
+
+-- after a run the machine stands as its outcome says
+pub ran_stands : (steps : ℕ) (a : Seen) (o : Outcome) (b : Seen) → Ran steps a o b → Stands b.machine.status o
+ran_stands steps a o b ran = by_outcome o ran.ends
+  where
+    stopped : (h : halt.Halt) → b ≡ ran.middle → ran.middle.machine.status ≡ Stopped h → Stands b.machine.status (outcome_of h)
+    stopped h same e = subst (λ s. Stands s (outcome_of h)) (sym (ap (λ x. x.machine.status) same ∙ e)) refl
+
+    by_outcome : (x : Outcome) → Ends x (length ran.log) steps ran.middle b → Stands b.machine.status x
+    by_outcome Ended (same, e, le) = stopped halt.Ended same e
+    by_outcome (Raised at n) (same, e, le) = stopped (halt.Raised at n) same e
+    by_outcome RoomUsed (same, e, le) = stopped halt.RoomUsed same e
+    by_outcome StepsUsed (same, e, le) = subst (λ s. Stands s StepsUsed) (sym (ap (λ x. x.machine.status) same ∙ e)) tt
+    by_outcome (Trap cause pc) (e, how) = subst (λ s. Stands s (Trap cause pc)) (sym e) refl
+    by_outcome ReadFault (fails, le) = subst (λ s. Stands s ReadFault) (sym (ap (λ x. x.machine.status) fails.rest ∙ fails.runs)) tt
+    by_outcome WriteFault (fails, le) = subst (λ s. Stands s WriteFault) (sym (ap (λ x. x.machine.status) fails.rest ∙ fails.runs)) tt
+
+-- the outcome of a machine that retires nothing more
+pub still_stands : (s : Status) (o : Outcome) → o ≡ outcome_by s → Stands s o
+still_stands Running o e = subst (λ x. IsPause x) (sym e) tt
+still_stands (Stopped end) o e = e
+still_stands (Trapped cause pc) o e = e

@@ -1,17 +1,17 @@
 -- One turn of a run, by what the instruction does and what the streams answer.
-use Rattle.std.proofs.Common.{◌≡◌, ℕ, ◌<◌, ◌≤◌, List, [], ◌∷◌, ◌++◌, length, map, Option, Some, None, refl, sym, ap, ◌∙◌, subst, inl, inr, append-nil, lit<, lit≤}
+use Rattle.std.proofs.Common.{◌≡◌, ℕ, ◌<◌, ◌≤◌, List, [], ◌∷◌, ◌++◌, map, Option, Some, None, refl, sym, ap, ◌∙◌, subst, inl, inr, append-nil, lit<, lit≤}
 use Rattle.std.specs.Prelude.{option_map, IfSome}
 use Rattle.th_world.specs.Event.{Event, Put, Took, FoundEnd}
 use Rattle.th_world.specs.Outside.{Rose, first_byte, without_first}
 use Rattle.th_watch.specs.Watch.{Watch, after}
 use Rattle.th_watch.proofs.AfterLemmas.{all_after-none}
 use Rattle.th_rv.specs.declared.instr.Cause.{Cause}
-use Rattle.th_rv.specs.Step.{State, Act, Next, Puts, Gets, Halts, Traps, Halt, Ended, Raised, RoomUsed, with_reg, step}
-use Rattle.th_elf.specs.Run.{Machine, Status, Running, Stopped, Trapped, Retired, Leads, Did, Retires, Trapping, running, with_a0, no_byte}
+use Rattle.th_rv.specs.Step.{State, Next, Puts, Gets, Halts, Traps, Halt, Ended, Raised, RoomUsed, with_reg, step}
+use Rattle.th_elf.specs.Run.{Running, Stopped, Trapped, Retired, Leads, Retires, with_a0, no_byte}
 use Rattle.th_mach.specs.declared.answer.Outcome.{Outcome}
 use Rattle.th_mach.specs.declared.answer.Outcome.TheVariants as outcome
 use Rattle.th_mach.specs.Counted.{Counted, retire, trap, next_count, is_put, is_get}
-use Rattle.th_mach.specs.Ran.{Seen, seen, TakesTold, Retiring, TrapsNow, ReadFails, WriteFails, Ran, IsOver, Turned, outcome_of}
+use Rattle.th_mach.specs.Ran.{Seen, seen, TakesTold, Retiring, TrapsNow, Turned, outcome_of}
 
 no_put : (o : Option (List ℕ)) → o ≡ option_map (λ bytes. bytes ++ []) o
 no_put None = refl

@@ -1,5 +1,5 @@
 -- What the machine's parts answer of an instruction, by the definition of what it does.
-use Rattle.std.specs.Prelude.{◌≡◌, ℕ}
+use Rattle.std.specs.Prelude.{◌≡◌}
 use Rattle.th_rv.specs.Step as step
 use Rattle.th_rv.specs.Step.{State, Act, with_reg}
 use Rattle.th_mach.specs.declared.hart.Halt.{Halt}

@@ -3,7 +3,6 @@ use Rattle.std.specs.Prelude.{◌≡◌, ℕ, zero, suc, ◌+◌, ◌<◌, ◌�
 use Rattle.th_world.specs.Event.{puts}
 use Rattle.th_world.specs.Outside.{Rose}
 use Rattle.th_watch.specs.Watch.{Watch, after}
-use Rattle.th_rv.specs.declared.instr.Cause.{Cause}
 use Rattle.th_rv.specs.Step as halt
 use Rattle.th_rv.specs.Step.{step}
 use Rattle.th_elf.specs.Run.{Machine, Status, Running, Stopped, Trapped, Retired, Retires, Trapping, Takes, trace, no_names}
@@ -112,6 +111,22 @@ abbrev pub outcome_by : Status → Outcome
 outcome_by Running = StepsUsed
 outcome_by (Stopped end) = outcome_of end
 outcome_by (Trapped cause pc) = Trap cause pc
+
+-- a further call goes on after the outcome
+abbrev pub IsPause : Outcome → Type 0
+IsPause Ended = ⊥
+IsPause (Raised at length) = ⊥
+IsPause RoomUsed = ⊥
+IsPause StepsUsed = Unit {0}
+IsPause (Trap cause pc) = ⊥
+IsPause ReadFault = Unit {0}
+IsPause WriteFault = Unit {0}
+
+-- the outcome of a call after which the machine stands so
+abbrev pub Stands : Status → Outcome → Type 0
+Stands Running outcome = IsPause outcome
+Stands (Stopped end) outcome = outcome ≡ outcome_of end
+Stands (Trapped cause pc) outcome = outcome ≡ Trap cause pc
 
 -- whether an outcome is an end, not the last of the steps
 abbrev pub IsOver : Outcome → Type 0

@@ -1,5 +1,4 @@
 -- How the code's machine stands, and how it goes on after an instruction.
-use Rattle.std.specs.Prelude.{◌≡◌, ℕ}
 use Rattle.th_rv.specs.Step.{State}
 use Rattle.th_elf.specs.Run as run
 use Rattle.th_mach.specs.declared.machine.Status.{Status}

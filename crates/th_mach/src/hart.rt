@@ -12,12 +12,14 @@ ghost use Rattle.th_mach.specs.Ran.{outcome_of};
 ghost use Rattle.th_mach.specs.Group.{group};
 
 use crate::answer::{Outcome, Step};
-use crate::memory::{Area, LONGEST_NAME, byte_in, bytes_in, half_in, put_half_in, put_in, put_word_in, word_in};
+use crate::memory::{
+    Area, LONGEST_NAME, byte_in, bytes_in, half_in, put_half_in, put_in, put_word_in, word_in,
+};
 use arrayvec::ArrayVec;
 use std::marker::Model;
 use th_rv::{Cause, Instr, decode};
 use th_word::{
-    add, and, divide, divide_unsigned, extend_12, extend_13, extend_16, extend_21, extend_8,
+    add, and, divide, divide_unsigned, extend_8, extend_12, extend_13, extend_16, extend_21,
     multiply, multiply_high, multiply_high_mixed, multiply_high_unsigned, or, remainder,
     remainder_unsigned, set_less, set_less_unsigned, shift_left, shift_right, shift_right_signed,
     signed_less, sub, xor,

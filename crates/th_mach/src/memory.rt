@@ -112,7 +112,11 @@ impl Area {
 }
 
 /// The memory of segments, in their order, and of a region.
-pub(crate) fn areas_of(alloc: Global, segments: &[Segment], room: u32) -> Result<Vec<Area>, AllocError>
+pub(crate) fn areas_of(
+    alloc: Global,
+    segments: &[Segment],
+    room: u32,
+) -> Result<Vec<Area>, AllocError>
     requires { All (λ s. length s.bytes ≤ s.size) segments.now }
     ensures { IfOk result (λ areas. areas.items ≡ map area_of segments.now ++ region room ∷ []) }
 {

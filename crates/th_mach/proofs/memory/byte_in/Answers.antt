@@ -1,4 +1,4 @@
-use Rattle.std.proofs.Common.{◌<◌, length, sym, ◌∙◌, arith}
+use Rattle.std.proofs.Common.{sym, ◌∙◌, arith}
 use Rattle.th_mach.proofs.Areas.{byte_found, byte_passed}
 use Rattle.th_mach.proofs.memory.byte_in.Goals as goal
 

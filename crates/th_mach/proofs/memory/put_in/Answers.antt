@@ -1,5 +1,5 @@
-use Rattle.std.proofs.Common.{◌≡◌, ◌-◌, ◌<◌, length, true, refl, get_or, sym, ap, ◌∙◌, arith}
-use Rattle.th_rv.specs.Memory.{has, area_set, put_at}
+use Rattle.std.proofs.Common.{◌≡◌, true, get_or, sym, ap, ◌∙◌, arith}
+use Rattle.th_rv.specs.Memory.{has, put_at}
 use Rattle.th_mach.proofs.Areas.{put_found, put_nowhere, one_read}
 use Rattle.th_mach.proofs.memory.put_in.Goals as goal
 

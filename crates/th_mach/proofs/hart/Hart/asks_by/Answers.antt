@@ -1,4 +1,4 @@
-use Rattle.std.proofs.Common.{◌≡◌, nat_eq, ap, sym, ◌∙◌}
+use Rattle.std.proofs.Common.{nat_eq, ap, sym, ◌∙◌}
 use Rattle.th_rv.specs.Step.{execute}
 use Rattle.th_mach.specs.Counted.{is_get}
 use Rattle.th_mach.proofs.Gets.{ecall_get, other_get}

@@ -1,7 +1,6 @@
-use Rattle.std.proofs.Common.{◌≡◌, Some, None, ap, sym, ◌∙◌}
-use Rattle.th_rv.specs.Step.{step}
+use Rattle.std.proofs.Common.{ap, sym, ◌∙◌}
 use Rattle.th_elf.specs.Run.{no_byte}
-use Rattle.th_mach.specs.Counted.{word_of, given_by, given}
+use Rattle.th_mach.specs.Counted.{given_by, given}
 use Rattle.th_mach.proofs.Gets.{step_is}
 use Rattle.th_mach.proofs.machine.Machine.give.Goals as goal
 

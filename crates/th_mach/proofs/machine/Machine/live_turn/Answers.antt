@@ -1,4 +1,4 @@
-use Rattle.std.proofs.Common.{◌≡◌, ap, ◌∙◌}
+use Rattle.std.proofs.Common.{ap, ◌∙◌}
 use Rattle.th_rv.specs.Step.{with_reg}
 use Rattle.th_elf.specs.Run.{Running, with_a0, no_byte}
 use Rattle.th_mach.specs.Counted.{retire}

@@ -1,4 +1,4 @@
-use Rattle.std.proofs.Common.{◌≡◌, ap, sym, ◌∙◌}
+use Rattle.std.proofs.Common.{ap, sym, ◌∙◌}
 use Rattle.th_mach.specs.Done.{halt_of}
 use Rattle.th_mach.specs.Status.{status_of}
 use Rattle.th_mach.proofs.Turns.{stopped_turn, trapped_turn}
