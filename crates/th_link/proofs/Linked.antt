@@ -153,6 +153,12 @@ lawful unit bytes few = record {
 pub linked_lawful : (m : ProgramModule) (image : Image) → PutsBytes m → IsImageOf m image → IsLawful image
 linked_lawful m image puts is = subst IsLawful (sym (is puts.bytes puts.units)) (lawful (full_name m.name (codes "main")) puts.bytes puts.few)
 
+-- it has 3 words for each byte, and 2 more
+pub linked_few : (m : ProgramModule) (image : Image) → PutsBytes m → IsImageOf m image → length image.code ≤ 14999
+linked_few m image puts is =
+    let words : length image.code ≡ 3 * length puts.bytes + 2 = ap (λ (x : Image). length x.code) (is puts.bytes puts.units) ∙ length_code puts.bytes in
+    omega (arith, words, puts.few)
+
 ends : (unit bytes : List ℕ) → AreBytes bytes → length bytes ≤ 4999 → EndsInTime (puts_image unit bytes)
 ends unit bytes all few =
     record {

@@ -1,5 +1,5 @@
 //! The image of a program.
-ghost use Rattle.std.specs.Prelude.{◌≡◌, ◌∷◌, [], List, IfOk};
+ghost use Rattle.std.specs.Prelude.{◌≡◌, ◌≤◌, ◌∷◌, [], List, IfOk, length};
 ghost use Rattle.th_core.specs.Tree.{module_of};
 ghost use Rattle.th_link.specs.Agrees.{Agrees};
 ghost use Rattle.th_link.specs.Ends.{EndsInTime};
@@ -28,12 +28,13 @@ fn map_of(alloc: Global, unit: &CoreUnit) -> Result<MapList, AllocError>
 
 /// The image of the program of one module, whose one unit `main` puts at most 4,999 bytes. It agrees with the program
 /// (docs/DEFINITIONS.md: agreement), can be written as a file, and its run ends after as many instructions as it has
-/// code words, whatever the input. Equal modules have equal images. The only error is want of memory.
+/// code words, at most 14,999, whatever the input. Equal modules have equal images. The only error is want of memory.
 pub fn link(alloc: Global, program: &CoreModule) -> Result<Image, AllocError>
     requires { PutsBytes (module_of program.now) }
     ensures agrees { IfOk result (λ image. Agrees image (module_of program.now ∷ [])) }
     ensures lawful { IfOk result (λ image. IsLawful image) }
     ensures ends { IfOk result (λ image. EndsInTime image) }
+    ensures few_words { IfOk result (λ image. length image.code ≤ 14999) }
     ensures made { IfOk result (λ image. IsImageOf (module_of program.now) image) }
 {
     let main = &program.units[0];

@@ -4,7 +4,7 @@ use Rattle.th_core.specs.Tree.{module_of}
 use Rattle.th_link.specs.Agrees.{AreBytes}
 use Rattle.th_link.specs.Puts.{IsImageOf}
 use Rattle.th_link.proofs.image.link.Goals as goal
-use Rattle.th_link.proofs.Linked.{unit_numbers, image_of, linked_agrees, linked_ends, linked_lawful}
+use Rattle.th_link.proofs.Linked.{unit_numbers, image_of, linked_agrees, linked_ends, linked_few, linked_lawful}
 
 pub code_of-requires : goal.code_of-requires
 code_of-requires c = subst AreBytes (sym (unit_numbers c.args.program.now.units.items c.index-main.result.now c.args.program.now.name c.requires.bytes c.requires.units c.index-main.ensures)) c.requires.are_bytes
@@ -20,6 +20,9 @@ returns-clause-lawful c = linked_lawful (module_of c.args.program.now) _ c.requi
 
 pub returns-clause-ends : goal.returns-clause-ends
 returns-clause-ends c = linked_ends (module_of c.args.program.now) _ c.requires (linked c)
+
+pub returns-clause-few_words : goal.returns-clause-few_words
+returns-clause-few_words c = linked_few (module_of c.args.program.now) _ c.requires (linked c)
 
 pub returns-clause-made : goal.returns-clause-made
 returns-clause-made c = linked c
