@@ -2,63 +2,20 @@
 use Rattle.std.proofs.Common.{◌≡◌, ◌≢◌, ℕ, zero, suc, ◌+◌, ◌-◌, ◌*◌, ◌<◌, ◌≤◌, List, [], ◌∷◌, ◌++◌, length, map, reverse, Option, Some, None, true, false, nat_lt, refl, sym, ap, ◌∙◌, subst, ◌⊎◌, inl, ⊎_elim, arith, append_assoc}
 use Rattle.std.proofs.lemmas.Bool.{lt-ltb, le-ltb, cases_lt}
 use Rattle.std.proofs.lemmas.List.{reverse-append}
-use Rattle.th_world.specs.Event.{Event, Put, Took, FoundEnd, Entered, Prefix}
+use Rattle.th_world.specs.Event.{Event, Put, Entered, Prefix}
 use Rattle.th_runs.specs.Stand.{End, GoesOn, Ended, NoRoom, Stand}
-use Rattle.th_runs.specs.Runs.{Program, IsOwn, exceeds, bounded_run, steps, machine_run}
+use Rattle.th_runs.specs.Runs.{Program, IsOwn, exceeds, bounded_run}
 use Rattle.th_runs.specs.Simulation.{Moves, Stops, Simulation}
 use Rattle.th_runs.specs.Agreement.{Agreement}
-use Rattle.th_runs.proofs.Prefixes.{prefix_refl}
 use Rattle.th_runs.proofs.Agrees.{agrees}
 use Rattle.th_rv.specs.declared.instr.Instr.{Instr}
 use Rattle.th_rv.specs.Memory.{Area}
 use Rattle.th_rv.specs.Step.{State, Halt, Act, Next, Puts, Gets, Halts, Traps, step}
 use Rattle.th_rv.specs.Step as rv
-use Rattle.th_elf.specs.Run.{Status, Running, Stopped, Trapped, Run, retired, after, after_get, while_running, run_step, end_of, entry_of, trace, stand, machine, run, with_a0, no_byte}
+use Rattle.th_elf.specs.Run.{Running, Stopped, Run, after, while_running, run_step, end_of, entry_of, trace, stand, machine, run}
+use Rattle.th_elf.proofs.Standing.{run_stays, run_grows, stand_of_run}
 use Rattle.th_link.specs.Puts.{puts_code}
 use Rattle.th_link.proofs.Spots.{Spot, Before, Loaded, Ready, Ending, ahead, Stands, Goes, Does, does}
-
--- a machine that no longer goes on stays as it is, and a step only adds to what is seen
-stays_at : (names : ℕ → Option (List ℕ)) (r : Run) (s : Status) → r.status ≡ s → (end_of r.state s ≢ GoesOn) → run_step r ≡ r
-unfolding run_step
-stays_at names r Running e h = absurd (h refl)
-stays_at names r (Stopped x) e h = ap (λ s. while_running s (after r (step r.state)) r) e
-stays_at names r (Trapped x pc) e h = ap (λ s. while_running s (after r (step r.state)) r) e
-
-pub stays : (names : ℕ → Option (List ℕ)) (r : Run) → (machine names).end r ≢ GoesOn → run_step r ≡ r
-unfolding stand
-stays names r h = stays_at names r r.status refl h
-
-grows_retired : (names : ℕ → Option (List ℕ)) (r : Run) (did : Option Event) (s : State) (status : Status) (input : List ℕ) → Prefix (trace names r.log) (trace names (retired r did s status input).log)
-grows_retired names r None s status input = record { more = entry_of (names r.state.pc); is = refl }
-grows_retired names r (Some e) s status input = record { more = (e ∷ []) ++ entry_of (names r.state.pc); is = refl }
-
-grows_get : (names : ℕ → Option (List ℕ)) (r : Run) (s : State) (input : List ℕ) → Prefix (trace names r.log) (trace names (after_get r s input).log)
-grows_get names r s [] = grows_retired names r (Some FoundEnd) (with_a0 s no_byte) Running []
-grows_get names r s (b ∷ bs) = grows_retired names r (Some (Took b)) (with_a0 s b) Running bs
-
-grows_after : (names : ℕ → Option (List ℕ)) (r : Run) (a : Act) → Prefix (trace names r.log) (trace names (after r a).log)
-grows_after names r (Next s) = grows_retired names r None s Running r.input
-grows_after names r (Puts b s) = grows_retired names r (Some (Put b)) s Running r.input
-grows_after names r (Gets s) = grows_get names r s r.input
-grows_after names r (Halts h s) = grows_retired names r None s (Stopped h) r.input
-grows_after names r (Traps c) = prefix_refl (trace names r.log)
-
-grows_while : (names : ℕ → Option (List ℕ)) (r : Run) (s : Status) → Prefix (trace names r.log) (trace names (while_running s (after r (step r.state)) r).log)
-grows_while names r Running = grows_after names r (step r.state)
-grows_while names r (Stopped h) = prefix_refl (trace names r.log)
-grows_while names r (Trapped c pc) = prefix_refl (trace names r.log)
-
-pub grows : (names : ℕ → Option (List ℕ)) (r : Run) → Prefix ((machine names).trace r) ((machine names).trace (run_step r))
-unfolding stand run_step
-grows names r = grows_while names r r.status
-
--- the names have no part in what a machine does
-same_steps : (names : ℕ → Option (List ℕ)) (k : ℕ) (r : Run) → run k r ≡ steps (machine names) k r
-same_steps names zero r = refl
-same_steps names (suc k) r = same_steps names k (run_step r)
-
-pub machine_is : (names : ℕ → Option (List ℕ)) (k : ℕ) (r : Run) → stand names (run k r) ≡ machine_run (machine names) k r
-machine_is names k r = ap (stand names) (same_steps names k r)
 
 -- what an instruction makes of a run
 acted : (r : Run) (a : Act) → r.status ≡ Running → step r.state ≡ a → run_step r ≡ after r a
@@ -291,8 +248,8 @@ module _ (unit : List ℕ) (weight : ℕ) where
 
           simulation : Simulation program (machine names) Meets size potential (first bytes) r source (λ k. stand names (run k r)) room (length code)
           simulation = record {
-            stays = stays names;
-            grows = grows names;
+            stays = run_stays names;
+            grows = run_grows names;
             longer = λ g e. longer g;
             own = λ g s me. own_at g.spot;
             same_end = λ g s me. same_end_at g.count g.spot s me.0;
@@ -301,7 +258,7 @@ module _ (unit : List ℕ) (weight : ℕ) where
             falls = λ n g s me e le. shorter g.spot e;
             starts = starts;
             bounded = all_paid;
-            machine_is = λ k. machine_is names k r;
+            machine_is = λ k. sym (stand_of_run names k r);
             source_is = source_is bytes source from;
             source_over = source_over bytes source from;
           }
