@@ -1,2 +1,6 @@
-//! Not written yet.
+//! Checked programs: their trees, what they mean, and the interpreter that runs them so.
 #![tactic(auto)]
+
+mod tree;
+
+pub use tree::{CoreBody, CoreExpr, CoreModule, CoreStmt, CoreUnit};

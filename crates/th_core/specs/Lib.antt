@@ -1,0 +1,6 @@
+pub mod Tree
+pub mod Names
+pub mod Counts
+pub mod World
+pub mod Meaning
+pub mod Fits
