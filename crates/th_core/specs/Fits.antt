@@ -1,13 +1,12 @@
 -- Which modules fit together to a program.
-use Rattle.std.specs.Prelude.{◌≡◌, ℕ, ◌<◌, ◌^◌, IsTrue, List, [], ◌∷◌, length, map, Contains, All}
+use Rattle.std.specs.Prelude.{◌≡◌, ℕ, ◌<◌, ◌^◌, IsTrue, List, length, map, AllPairs, ◌≢◌, All}
 use Rattle.th_core.specs.Tree.{Expr, Number, Stmt, PutByte, Body, Empty, Then, ProgramUnit, ProgramModule, Program, unit_names}
 use Rattle.th_core.specs.Names.{is_name, full_name}
 use Rattle.th_core.specs.Meaning.{mains}
 
 -- no two elements are equal
-abbrev pub Distinct : {A : Type 0} → List A → Type 0
-Distinct [] = Unit {0}
-Distinct (x ∷ xs) = (¬ Contains xs x) × Distinct xs
+abbrev pub Differ : {A : Type 0} → List A → Type 0
+Differ = AllPairs (λ x y. x ≢ y)
 
 -- each operand of the expression has the type that its form needs; a number is one of the language's
 abbrev pub ExprFits : Expr → Type 0
@@ -36,7 +35,7 @@ pub record ModuleFits (m : ProgramModule) : Type 0 where
 
 -- the modules have different names and fit, no full name is there twice, and exactly one module has a `main`
 pub record Fits (p : Program) : Type 0 where
-  pub modules_differ : Distinct (map (λ m. m.name) p)
+  pub modules_differ : Differ (map (λ m. m.name) p)
   pub modules : All ModuleFits p
-  pub units_differ : Distinct (unit_names p)
+  pub units_differ : Differ (unit_names p)
   pub one_main : length (mains p) ≡ 1

@@ -4,3 +4,4 @@ pub mod Counts
 pub mod World
 pub mod Meaning
 pub mod Fits
+pub mod Puts
