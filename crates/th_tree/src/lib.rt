@@ -3,6 +3,8 @@
 
 mod lists;
 mod names;
+mod tokens;
 
 pub use lists::{ByteList, NumberList};
 pub use names::Name;
+pub use tokens::{Reserved, Sym, Token, TokenKind, Tokens};
