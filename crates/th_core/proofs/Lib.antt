@@ -1,1 +1,2 @@
 pub mod PutsRun
+pub mod NameLemmas

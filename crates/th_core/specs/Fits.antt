@@ -1,12 +1,9 @@
 -- Which modules fit together to a program.
-use Rattle.std.specs.Prelude.{◌≡◌, ℕ, ◌<◌, ◌^◌, IsTrue, List, length, map, AllPairs, ◌≢◌, All}
+use Rattle.std.specs.Prelude.{◌≡◌, ℕ, ◌<◌, ◌^◌, List, length, map, All, bytes_eq}
+use Rattle.std.specs.List.{IsDistinct}
 use Rattle.th_core.specs.Tree.{Expr, Number, Stmt, PutByte, Body, Empty, Then, ProgramUnit, ProgramModule, Program, unit_names}
-use Rattle.th_core.specs.Names.{is_name, full_name}
+use Rattle.th_core.specs.Names.{IsName, full_name}
 use Rattle.th_core.specs.Meaning.{mains}
-
--- no two elements are equal
-abbrev pub Differ : {A : Type 0} → List A → Type 0
-Differ = AllPairs (λ x y. x ≢ y)
 
 -- each operand of the expression has the type that its form needs; a number is one of the language's
 abbrev pub ExprFits : Expr → Type 0
@@ -25,17 +22,17 @@ BodyFits (Then s rest) = StmtFits s × BodyFits rest
 pub record UnitFits (m : List ℕ) (u : ProgramUnit) : Type 0 where
   pub item : List ℕ
   pub named : u.name ≡ full_name m item
-  pub is_item : IsTrue (is_name item)
+  pub is_item : IsName item
   pub body : BodyFits u.body
 
 -- the module has a name as in a text, and its units fit
 pub record ModuleFits (m : ProgramModule) : Type 0 where
-  pub named : IsTrue (is_name m.name)
+  pub named : IsName m.name
   pub units : All (UnitFits m.name) m.units
 
 -- the modules have different names and fit, no full name is there twice, and exactly one module has a `main`
 pub record Fits (p : Program) : Type 0 where
-  pub modules_differ : Differ (map (λ m. m.name) p)
+  pub modules_differ : IsDistinct bytes_eq (map (λ m. m.name) p)
   pub modules : All ModuleFits p
-  pub units_differ : Differ (unit_names p)
+  pub units_differ : IsDistinct bytes_eq (unit_names p)
   pub one_main : length (mains p) ≡ 1

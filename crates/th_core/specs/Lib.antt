@@ -5,3 +5,4 @@ pub mod World
 pub mod Meaning
 pub mod Fits
 pub mod Puts
+pub mod Units

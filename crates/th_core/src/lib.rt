@@ -1,6 +1,7 @@
 //! Checked programs: their trees, what they mean, and the interpreter that runs them so.
 #![tactic(auto)]
 
+mod names;
 mod tree;
 
 pub use tree::{CoreBody, CoreExpr, CoreModule, CoreStmt, CoreUnit};
