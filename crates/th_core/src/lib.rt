@@ -1,7 +1,9 @@
 //! Checked programs: their trees, what they mean, and the interpreter that runs them so.
 #![tactic(auto)]
 
+mod counts;
 mod names;
 mod tree;
 
+pub use counts::{depth, locals, nodes};
 pub use tree::{CoreBody, CoreExpr, CoreModule, CoreStmt, CoreUnit};
