@@ -1,2 +1,3 @@
 pub mod PutsRun
 pub mod NameLemmas
+pub mod OrderLemmas

@@ -1,5 +1,6 @@
 -- The numbers of a program's units, in the order of their names, and what a run enters by these numbers.
 use Rattle.std.specs.Prelude.{ℕ, Bool, List, count_by}
+use Rattle.std.specs.List.Sorted.{IsPermutation, IsStrictlySortedBy}
 use Rattle.std.specs.Ordering.{is_lt, nat_cmp}
 use Rattle.std.specs.Cmp.Lexicographic.{slice_cmp}
 use Rattle.th_core.specs.Tree.{Program, unit_names}
@@ -11,3 +12,8 @@ stands_before a b = is_lt (slice_cmp nat_cmp a b)
 -- the number of a unit by its full name: how many units have a name before it
 abbrev pub unit_number : Program → List ℕ → ℕ
 unit_number p name = count_by (λ other. stands_before other name) (unit_names p)
+
+-- the names are those of all units, each before the next
+pub record Ordered (p : Program) (names : List (List ℕ)) : Type 0 where
+  pub same : IsPermutation (unit_names p) names
+  pub ascending : IsStrictlySortedBy (slice_cmp nat_cmp) names

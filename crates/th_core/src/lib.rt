@@ -3,6 +3,7 @@
 
 mod counts;
 mod names;
+mod order;
 mod tree;
 
 pub use counts::{depth, locals, nodes};
