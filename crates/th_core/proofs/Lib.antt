@@ -1,3 +1,4 @@
 pub mod PutsRun
 pub mod NameLemmas
 pub mod OrderLemmas
+pub mod FitLemmas

@@ -2,6 +2,7 @@
 #![tactic(auto)]
 
 mod counts;
+mod fits;
 mod names;
 mod order;
 mod tree;
