@@ -1,9 +1,10 @@
 -- The numbers of a program's units, in the order of their names, and what a run enters by these numbers.
-use Rattle.std.specs.Prelude.{ℕ, Bool, List, count_by}
+use Rattle.std.specs.Prelude.{ℕ, ◌<◌, ◌^◌, Bool, List, length, count_by}
 use Rattle.std.specs.List.Sorted.{IsPermutation, IsStrictlySortedBy}
 use Rattle.std.specs.Ordering.{is_lt, nat_cmp}
 use Rattle.std.specs.Cmp.Lexicographic.{slice_cmp}
 use Rattle.th_core.specs.Tree.{Program, unit_names}
+use Rattle.th_core.specs.Fits.{Fits}
 
 -- whether the first name stands before the second one, bytewise
 abbrev pub stands_before : List ℕ → List ℕ → Bool
@@ -17,3 +18,9 @@ unit_number p name = count_by (λ other. stands_before other name) (unit_names p
 pub record Ordered (p : Program) (names : List (List ℕ)) : Type 0 where
   pub same : IsPermutation (unit_names p) names
   pub ascending : IsStrictlySortedBy (slice_cmp nat_cmp) names
+
+-- a program whose modules fit, with the names of its units in order
+pub record IsProgram (p : Program) (names : List (List ℕ)) : Type 0 where
+  pub fits : Fits p
+  pub ordered : Ordered p names
+  pub few : length names < 2 ^ 32

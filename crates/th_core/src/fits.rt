@@ -26,8 +26,20 @@ fn bytes_after<'a>(prefix: &[u8], bytes: &'a [u8]) -> Option<&'a [u8]>
     bytes.strip_prefix(prefix)
 }
 
+/// Whether each module fits by itself.
+pub(crate) fn modules_fit(modules: &[CoreModule]) -> bool
+    ensures { IsTrue result ↔ All (λ m. ModuleFits (module_of m)) modules.now }
+{
+    for module in modules {
+        if !module_fits(module) {
+            return false;
+        }
+    }
+    true
+}
+
 /// Whether the module fits by itself.
-pub(crate) fn module_fits(module: &CoreModule) -> bool
+fn module_fits(module: &CoreModule) -> bool
     ensures { IsTrue result ↔ ModuleFits (module_of module.now) }
 {
     let name = module.name.as_bytes();

@@ -5,7 +5,9 @@ mod counts;
 mod fits;
 mod names;
 mod order;
+mod program;
 mod tree;
 
 pub use counts::{depth, locals, nodes};
+pub use program::CoreProgram;
 pub use tree::{CoreBody, CoreExpr, CoreModule, CoreStmt, CoreUnit};

@@ -21,6 +21,16 @@ pub(crate) fn in_order(mut names: Vec<Name>) -> Option<Vec<Name>>
     if is_ascending(&names) { Some(names) } else { None }
 }
 
+/// Whether no two of the names are equal.
+pub(crate) fn differ(names: Vec<Name>) -> bool
+    ensures { IsTrue result ↔ IsDistinct bytes_eq names.items }
+{
+    match in_order(names) {
+        None => false,
+        Some(_) => true,
+    }
+}
+
 /// Whether each name is before the next.
 fn is_ascending(names: &[Name]) -> bool
     ensures { IsTrue result ↔ IsStrictlySortedBy (slice_cmp nat_cmp) names.now }
