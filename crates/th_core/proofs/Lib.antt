@@ -2,3 +2,4 @@ pub mod PutsRun
 pub mod NameLemmas
 pub mod OrderLemmas
 pub mod FitLemmas
+pub mod UnitLemmas

@@ -1,8 +1,8 @@
 //! Programs: modules that fit together.
-ghost use Rattle.std.specs.Prelude.{◌≡◌, ◌^◌, ◌<◌, ◌≤◌, ◌↔◌, length, IfOk, IfSome, IfNone, OnSome, IsNone, Contains};
+ghost use Rattle.std.specs.Prelude.{◌≡◌, ◌^◌, ◌<◌, ◌≤◌, ◌↔◌, length, IfOk, IfSome, IfNone, OnSome, IsNone, count_by};
 ghost use Rattle.th_core.specs.Tree.{program_of, unit_names};
 ghost use Rattle.th_core.specs.Fits.{Fits};
-ghost use Rattle.th_core.specs.Units.{Ordered, unit_number};
+ghost use Rattle.th_core.specs.Units.{IsUnit, Ordered, stands_before, unit_number};
 
 use crate::fits::{main_units, modules_fit};
 use crate::order::{differ, full_names, in_order, module_names};
@@ -51,6 +51,25 @@ impl CoreProgram {
             Some(names) => Ok(Some(CoreProgram { modules, names })),
         }
     }
+
+    /// The full name of the unit with the number `k` in bytewise order of names, from 0; None exactly where
+    /// `k` is not below the number of units. It takes no memory.
+    pub fn unit(&self, k: u32) -> Option<&[u8]>
+        ensures some { IfSome result (λ name. IsUnit (program_of self.now) k name.now) }
+        ensures none { IsNone result ↔ (length (unit_names (program_of self.now)) ≤ k) }
+    {
+        match self.names.get(k as usize) {
+            None => None,
+            Some(name) => Some(name.as_bytes()),
+        }
+    }
+
+    /// The number of the unit with this full name.
+    pub(crate) fn number_of(&self, name: &[u8]) -> u32
+        ensures { result ≡ unit_number (program_of self.now) name.now }
+    {
+        names_before(&self.names, name) as u32
+    }
 }
 
 /// The full names of the units in order; None exactly where the modules do not fit together.
@@ -72,4 +91,11 @@ fn fitting_names(alloc: Global, modules: &[CoreModule]) -> Result<Option<Vec<Nam
         None => Ok(None),
         Some(names) => Ok(Some(names)),
     }
+}
+
+/// How many of the names stand before this one.
+fn names_before(names: &[Name], name: &[u8]) -> usize
+    ensures { result ≡ count_by (λ other. stands_before other name.now) names.now }
+{
+    names.iter().filter(|other| other.as_bytes().cmp(name).is_lt()).count()
 }
