@@ -3,3 +3,4 @@ pub mod NameLemmas
 pub mod OrderLemmas
 pub mod FitLemmas
 pub mod UnitLemmas
+pub mod StepLemmas

@@ -6,3 +6,5 @@ pub mod Meaning
 pub mod Fits
 pub mod Puts
 pub mod Units
+pub mod Run
+pub mod Steps

@@ -1,0 +1,102 @@
+//! The interpreter: it runs a program as its meaning says.
+ghost use Rattle.std.specs.Prelude.{pos, ◌≡◌, ◌≤◌, ◌∷◌, [], Option, Some, None, IfOk, IfErr, IfNone, IfSome, OnOk, OnErr, slice_get, option_map};
+ghost use Rattle.th_world.specs.Outside.{Rose};
+ghost use Rattle.th_core.specs.Tree.{PutByte, body_of, expr_of, program_of, stmt_of, unit_of};
+ghost use Rattle.th_core.specs.World.{Int};
+ghost use Rattle.th_core.specs.Counts.{weight};
+ghost use Rattle.th_core.specs.Meaning.{State, Gives, eval, source_run};
+ghost use Rattle.th_core.specs.Units.{unit_number};
+ghost use Rattle.th_core.specs.Run.{Answers, OnReadFault, OnWriteFault, Shown, ShownPart, end_of};
+ghost use Rattle.th_core.specs.declared.interpret.InterpretError.TheVariants.{Memory};
+ghost use Rattle.th_core.specs.Steps.{Begun, Executed, Finished};
+
+use crate::tree::{CoreBody, CoreExpr, CoreStmt};
+use std::alloc::Global;
+use th_tree::{Name, NumberList};
+use th_world::Sink;
+use thiserror::Error;
+
+/// How a run ended. `Raised` has the name of an exception that was not handled.
+#[derive(Drop)]
+pub enum End {
+    Ended,
+    Raised(Name),
+    NoTurns,
+    NoRoom,
+}
+
+/// How a run ended, and the numbers of the units that it entered, in order (`CoreProgram::unit`).
+#[derive(Drop)]
+pub struct Run {
+    pub end: End,
+    pub entered: NumberList,
+}
+
+/// Why a run was cut off.
+#[derive(Clone, Copy, PartialEq, Eq, Debug, Drop, Error)]
+pub enum InterpretError {
+    #[error("the source of bytes failed")]
+    ReadFault,
+    #[error("the sink of bytes failed")]
+    WriteFault,
+    #[error("no memory for the run")]
+    Memory,
+}
+
+/// An open call: what is left of its unit's statements.
+#[derive(Clone, Copy)]
+struct Call<'a> {
+    rest: &'a CoreBody,
+}
+
+/// The value of an expression.
+fn eval_expr(expr: &CoreExpr) -> u32
+    ensures { (st : State) → eval (expr_of expr.now) st ≡ Gives (Int (pos result)) st }
+{
+    match expr {
+        CoreExpr::Number(number) => *number,
+    }
+}
+
+/// Executes a statement, and gives the exception that it raised.
+fn exec_stmt<K: Sink>(alloc: Global, stmt: &CoreStmt, output: &mut K) -> Result<Option<Name>, InterpretError>
+    ensures done { IfOk result (λ raised. Executed (stmt_of stmt.now) raised (K.put_bytes output.old) (K.put_bytes output.new)) }
+    ensures none { OnErr result (K.put_bytes output.new ≡ K.put_bytes output.old) }
+    ensures no_fault { OnOk result (K.faults output.new ≡ K.faults output.old) }
+    ensures write_fault { IfErr result (λ e. OnWriteFault e (Rose (K.faults output.old) (K.faults output.new))) }
+    ensures never_falls { K.faults output.old ≤ K.faults output.new }
+{
+    match stmt {
+        CoreStmt::PutByte(value) => put_value(alloc, value, output),
+    }
+}
+
+/// Puts the byte that the expression gives, and gives the exception that this raised.
+fn put_value<K: Sink>(alloc: Global, value: &CoreExpr, output: &mut K) -> Result<Option<Name>, InterpretError>
+    ensures done { IfOk result (λ raised. Executed (PutByte (expr_of value.now)) raised (K.put_bytes output.old) (K.put_bytes output.new)) }
+    ensures none { OnErr result (K.put_bytes output.new ≡ K.put_bytes output.old) }
+    ensures no_fault { OnOk result (K.faults output.new ≡ K.faults output.old) }
+    ensures write_fault { IfErr result (λ e. OnWriteFault e (Rose (K.faults output.old) (K.faults output.new))) }
+    ensures never_falls { K.faults output.old ≤ K.faults output.new }
+{
+    let number = eval_expr(value);
+    if number > 255 {
+        let bounds = exception(alloc, b"bounds")?;
+        return Ok(Some(bounds));
+    }
+    match output.put(number as u8) {
+        Ok(()) => Ok(None),
+        Err(_) => Err(InterpretError::WriteFault),
+    }
+}
+
+/// The name of an exception.
+fn exception(alloc: Global, name: &[u8]) -> Result<Name, InterpretError>
+    ensures ok { IfOk result (λ exception. exception ≡ name.now) }
+    ensures memory { IfErr result (λ e. e ≡ Memory) }
+{
+    match Vec::from_slice(alloc, name) {
+        Ok(bytes) => Ok(Name::of(bytes)),
+        Err(_) => Err(InterpretError::Memory),
+    }
+}
