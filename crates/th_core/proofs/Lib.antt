@@ -4,3 +4,4 @@ pub mod OrderLemmas
 pub mod FitLemmas
 pub mod UnitLemmas
 pub mod StepLemmas
+pub mod CallLemmas

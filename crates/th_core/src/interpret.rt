@@ -1,5 +1,5 @@
 //! The interpreter: it runs a program as its meaning says.
-ghost use Rattle.std.specs.Prelude.{pos, ◌≡◌, ◌≤◌, ◌∷◌, [], Option, Some, None, IfOk, IfErr, IfNone, IfSome, OnOk, OnErr, slice_get, option_map};
+ghost use Rattle.std.specs.Prelude.{pos, ◌≡◌, ◌≤◌, ◌<◌, ◌∷◌, ◌++◌, [], Option, Some, None, IfOk, IfErr, IfNone, IfSome, OnOk, OnErr, slice_get, option_map};
 ghost use Rattle.th_world.specs.Outside.{Rose};
 ghost use Rattle.th_core.specs.Tree.{PutByte, body_of, expr_of, program_of, stmt_of, unit_of};
 ghost use Rattle.th_core.specs.World.{Int};
@@ -8,7 +8,7 @@ ghost use Rattle.th_core.specs.Meaning.{State, Gives, eval, source_run};
 ghost use Rattle.th_core.specs.Units.{unit_number};
 ghost use Rattle.th_core.specs.Run.{Answers, OnReadFault, OnWriteFault, Shown, ShownPart, end_of};
 ghost use Rattle.th_core.specs.declared.interpret.InterpretError.TheVariants.{Memory};
-ghost use Rattle.th_core.specs.Steps.{Begun, Executed, Finished};
+ghost use Rattle.th_core.specs.Steps.{Begun, Executed, Finished, Stepped, steps_left};
 
 use crate::tree::{CoreBody, CoreExpr, CoreStmt};
 use std::alloc::Global;
@@ -98,5 +98,36 @@ fn exception(alloc: Global, name: &[u8]) -> Result<Name, InterpretError>
     match Vec::from_slice(alloc, name) {
         Ok(bytes) => Ok(Name::of(bytes)),
         Err(_) => Err(InterpretError::Memory),
+    }
+}
+
+/// Opens a call.
+fn open_call<'a>(calls: &mut Vec<Call<'a>>, rest: &'a CoreBody) -> Result<(), InterpretError>
+    ensures ok { OnOk result (calls.new.items ≡ calls.old.items ++ record { rest = rest.entry } ∷ []) }
+    ensures memory { IfErr result (λ e. e ≡ Memory) }
+{
+    match calls.push(Call { rest }) {
+        Ok(()) => Ok(()),
+        Err(_) => Err(InterpretError::Memory),
+    }
+}
+
+/// Executes the first statement that is left of the innermost call, and gives the exception that it raised; or
+/// ends the call.
+fn step<'a, K: Sink>(alloc: Global, calls: &mut Vec<Call<'a>>, call: Call<'a>, output: &mut K) -> Result<Option<Name>, InterpretError>
+    ensures stepped { IfOk result (λ raised. Stepped (calls.old.items ++ call.entry ∷ []) calls.new.items raised (K.put_bytes output.old) (K.put_bytes output.new)) }
+    ensures fewer { OnOk result (steps_left calls.new.items < steps_left (calls.old.items ++ call.entry ∷ [])) }
+    ensures none { OnErr result (K.put_bytes output.new ≡ K.put_bytes output.old) }
+    ensures no_fault { OnOk result (K.faults output.new ≡ K.faults output.old) }
+    ensures write_fault { IfErr result (λ e. OnWriteFault e (Rose (K.faults output.old) (K.faults output.new))) }
+    ensures never_falls { K.faults output.old ≤ K.faults output.new }
+{
+    match call.rest {
+        CoreBody::Empty => Ok(None),
+        CoreBody::Then(stmt, rest) => {
+            open_call(calls, rest)?;
+            let raised = exec_stmt(alloc, stmt, output)?;
+            Ok(raised)
+        }
     }
 }
