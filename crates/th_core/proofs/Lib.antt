@@ -5,3 +5,5 @@ pub mod FitLemmas
 pub mod UnitLemmas
 pub mod StepLemmas
 pub mod CallLemmas
+pub mod ExtendLemmas
+pub mod LoopLemmas

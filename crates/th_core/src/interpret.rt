@@ -131,3 +131,22 @@ fn step<'a, K: Sink>(alloc: Global, calls: &mut Vec<Call<'a>>, call: Call<'a>, o
         }
     }
 }
+
+/// Runs the statements of a unit to their end.
+fn run_body<K: Sink>(alloc: Global, body: &CoreBody, output: &mut K) -> Result<End, InterpretError>
+    ensures finished { IfOk result (λ end. Finished (body_of body.now) (end_of end) (K.put_bytes output.old) (K.put_bytes output.new)) }
+    ensures begun { OnErr result (Begun (body_of body.now) (K.put_bytes output.old) (K.put_bytes output.new)) }
+    ensures no_fault { OnOk result (K.faults output.new ≡ K.faults output.old) }
+    ensures write_fault { IfErr result (λ e. OnWriteFault e (Rose (K.faults output.old) (K.faults output.new))) }
+    ensures never_falls { K.faults output.old ≤ K.faults output.new }
+{
+    let mut calls = Vec::new(alloc);
+    open_call(&mut calls, body)?;
+    while let Some(call) = calls.pop() {
+        match step(alloc, &mut calls, call, output)? {
+            None => {}
+            Some(exception) => return Ok(End::Raised(exception)),
+        }
+    }
+    Ok(End::Ended)
+}
