@@ -52,17 +52,17 @@ if_done_extends Done st next p = p
 if_done_extends Exit st next p = prefix_refl st.world.trace
 if_done_extends (Return v) st next p = prefix_refl st.world.trace
 
-body_extends : (body : Body) (st : State) → Prefix st.world.trace (trace_of (exec_body body st))
-body_extends Empty st = prefix_refl st.world.trace
-body_extends (Then s rest) st =
+statements_extend : (body : Body) (st : State) → Prefix st.world.trace (trace_of (exec_body body st))
+statements_extend Empty st = prefix_refl st.world.trace
+statements_extend (Then s rest) st =
     then_extends st.world.trace (exec s st) _ (exec_extends s st)
-    (λ how st1. if_done_extends how st1 (exec_body rest st1) (body_extends rest st1))
+    (λ how st1. if_done_extends how st1 (exec_body rest st1) (statements_extend rest st1))
 
 -- open calls only add events
 resume_extends : (calls : List Call) (how : How) (st : State) → Prefix st.world.trace (trace_of (resume calls how st))
 resume_extends [] how st = prefix_refl st.world.trace
 resume_extends (call ∷ inner) how st =
-    then_extends st.world.trace (resume inner how st) _ (resume_extends inner how st) (λ _ st1. body_extends (body_of call.rest.now) st1)
+    then_extends st.world.trace (resume inner how st) _ (resume_extends inner how st) (λ _ st1. statements_extend (body_of call.rest.now) st1)
 
 stand_trace : (o : Outcome How) → trace_of o ≡ (stand_of o).trace
 stand_trace (Gives how st) = refl
@@ -72,3 +72,7 @@ stand_trace (Halts h w) = refl
 -- the trace of a state at which open calls stand is a prefix of that of the whole run
 pub calls_extend : (calls : List Call) (how : How) (st : State) → Prefix st.world.trace (stand_of (resume calls how st)).trace
 calls_extend calls how st = rw (← stand_trace (resume calls how st)) (resume_extends calls how st)
+
+-- the trace of a state is a prefix of that after statements
+pub body_extends : (body : Body) (st : State) → Prefix st.world.trace (stand_of (exec_body body st)).trace
+body_extends body st = rw (← stand_trace (exec_body body st)) (statements_extend body st)

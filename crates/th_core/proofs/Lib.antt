@@ -7,3 +7,5 @@ pub mod StepLemmas
 pub mod CallLemmas
 pub mod ExtendLemmas
 pub mod LoopLemmas
+pub mod CountLemmas
+pub mod StartLemmas

@@ -8,7 +8,7 @@ use Rattle.th_core.specs.Tree.{Body, body_of}
 use Rattle.th_core.specs.Meaning.{State, Done, exec_body, stand_of}
 use Rattle.th_core.specs.Steps.{after, Puts, Stepped, Finished, Begun, resume}
 use Rattle.th_core.proofs.StepLemmas.{none_put}
-use Rattle.th_core.proofs.ExtendLemmas.{calls_extend}
+use Rattle.th_core.proofs.ExtendLemmas.{calls_extend, body_extends}
 
 -- from every state the statements come to these open calls after the same events
 pub record InLoop (body : Body) (calls : List Call) (before now : Option (List ℕ)) : Type 0 where
@@ -16,21 +16,21 @@ pub record InLoop (body : Body) (calls : List Call) (before now : Option (List �
   pub is : (st : State) → exec_body body st ≡ resume calls Done (after more st)
   pub shown : Puts more before now
 
-puts-append : (t u : List Event) → puts (t ++ u) ≡ puts u ++ puts t
+pub puts-append : (t u : List Event) → puts (t ++ u) ≡ puts u ++ puts t
 puts-append [] u = sym (append-nil (puts u))
 puts-append (Put b ∷ t) u = ap (λ bs. bs ++ b ∷ []) (puts-append t u) ∙ append_assoc (puts u) (puts t) (b ∷ [])
 puts-append (Took b ∷ t) u = puts-append t u
 puts-append (FoundEnd ∷ t) u = puts-append t u
 puts-append (Entered name ∷ t) u = puts-append t u
 
-takes-append : (t u : List Event) → takes (t ++ u) ≡ takes u ++ takes t
+pub takes-append : (t u : List Event) → takes (t ++ u) ≡ takes u ++ takes t
 takes-append [] u = sym (append-nil (takes u))
 takes-append (Put b ∷ t) u = takes-append t u
 takes-append (Took b ∷ t) u = ap (λ bs. bs ++ b ∷ []) (takes-append t u) ∙ append_assoc (takes u) (takes t) (b ∷ [])
 takes-append (FoundEnd ∷ t) u = takes-append t u
 takes-append (Entered name ∷ t) u = takes-append t u
 
-entries-append : (t u : List Event) → entries (t ++ u) ≡ entries u ++ entries t
+pub entries-append : (t u : List Event) → entries (t ++ u) ≡ entries u ++ entries t
 entries-append [] u = sym (append-nil (entries u))
 entries-append (Put b ∷ t) u = entries-append t u
 entries-append (Took b ∷ t) u = entries-append t u
@@ -88,3 +88,10 @@ loop_begun body calls before now l = record {
   more = l.more;
   is = λ st. subst (λ o. Prefix (l.more ++ st.world.trace) (stand_of o).trace) (sym (l.is st)) (calls_extend calls Done (after l.more st));
   shown = l.shown }
+
+-- nothing was done yet
+pub none_begun : (body : Body) (before : Option (List ℕ)) → Begun body before before
+none_begun body before = record {
+  more = [];
+  is = λ st. body_extends body st;
+  shown = record { put = none_put before; no_take = refl; no_entry = refl } }

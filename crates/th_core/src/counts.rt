@@ -1,7 +1,7 @@
 //! How large a unit is. A count that is above 2^64 - 1, which no unit in memory reaches, is given as 2^64 - 1.
 ghost use Rattle.std.specs.Prelude.{◌≡◌, ◌-◌, ◌^◌, min};
 ghost use Rattle.th_core.specs.Tree.{stmt_of, unit_of};
-ghost use Rattle.th_core.specs.Counts.{stmt_nodes, stmt_locals, stmt_depth, unit_nodes, unit_locals, unit_depth};
+ghost use Rattle.th_core.specs.Counts.{stmt_nodes, stmt_locals, stmt_depth, unit_nodes, unit_locals, unit_depth, weight};
 
 use crate::tree::{CoreBody, CoreExpr, CoreStmt, CoreUnit};
 
@@ -56,6 +56,13 @@ pub fn depth(unit: &CoreUnit) -> u64
             }
         }
     }
+}
+
+/// The weight of an open call of the unit: the bytes of room that it takes (docs/LANGUAGE.md).
+pub(crate) fn call_weight(unit: &CoreUnit) -> u64
+    ensures { result ≡ weight (unit_of unit.now) }
+{
+    256 + 4 * (locals(unit) + depth(unit))
 }
 
 fn nodes_of_stmt(stmt: &CoreStmt) -> u64

@@ -10,10 +10,12 @@ ghost use Rattle.th_core.specs.Run.{Answers, OnReadFault, OnWriteFault, Shown, S
 ghost use Rattle.th_core.specs.declared.interpret.InterpretError.TheVariants.{Memory};
 ghost use Rattle.th_core.specs.Steps.{Begun, Executed, Finished, Stepped, steps_left};
 
-use crate::tree::{CoreBody, CoreExpr, CoreStmt};
+use crate::counts::call_weight;
+use crate::program::CoreProgram;
+use crate::tree::{CoreBody, CoreExpr, CoreStmt, CoreUnit};
 use std::alloc::Global;
 use th_tree::{Name, NumberList};
-use th_world::Sink;
+use th_world::{Sink, Source};
 use thiserror::Error;
 
 /// How a run ended. `Raised` has the name of an exception that was not handled.
@@ -149,4 +151,62 @@ fn run_body<K: Sink>(alloc: Global, body: &CoreBody, output: &mut K) -> Result<E
         }
     }
     Ok(End::Ended)
+}
+
+/// Enters `main`, which there is room for, and runs it.
+fn run_main<K: Sink>(alloc: Global, program: &CoreProgram, unit: &CoreUnit, output: &mut K) -> Result<Run, InterpretError>
+    ensures finished { IfOk result (λ run. Finished (body_of unit.now.body) (end_of run.end) (K.put_bytes output.old) (K.put_bytes output.new)) }
+    ensures entered { IfOk result (λ run. run.entered ≡ unit_number (program_of program.now) unit.now.name ∷ []) }
+    ensures begun { OnErr result (Begun (body_of unit.now.body) (K.put_bytes output.old) (K.put_bytes output.new)) }
+    ensures no_fault { OnOk result (K.faults output.new ≡ K.faults output.old) }
+    ensures write_fault { IfErr result (λ e. OnWriteFault e (Rose (K.faults output.old) (K.faults output.new))) }
+    ensures never_falls { K.faults output.old ≤ K.faults output.new }
+{
+    let mut entered = Vec::new(alloc);
+    match entered.push(program.number_of(unit.name.as_bytes())) {
+        Ok(()) => {}
+        Err(_) => return Err(InterpretError::Memory),
+    }
+    let end = run_body(alloc, &unit.body, output)?;
+    let entered = NumberList::of(entered);
+    Ok(Run { end, entered })
+}
+
+/// Runs the program with so many turns, and with so much room in bytes (None: unlimited). Ok gives the end of the
+/// run that the program means, and the units that it entered; the bytes taken and put are those of that run.
+/// A fault comes only where the count of that stream rose in this call. After any error the bytes taken and put are
+/// those of a beginning of the run (docs/DEFINITIONS.md).
+pub fn interpret<S: Source, K: Sink>(
+    alloc: Global,
+    program: &CoreProgram,
+    input: &mut S,
+    output: &mut K,
+    turns: u64,
+    room: Option<u64>,
+) -> Result<Run, InterpretError>
+    ensures answers { IfOk result (λ run. IfSome (S.left input.old) (λ bytes.
+        Answers (program_of program.now) run (source_run (program_of program.now) bytes room turns))) }
+    ensures shown { OnOk result (IfSome (S.left input.old) (λ bytes.
+        Shown (source_run (program_of program.now) bytes room turns).trace bytes (S.left input.new) (K.put_bytes output.old) (K.put_bytes output.new))) }
+    ensures part { OnErr result (IfSome (S.left input.old) (λ bytes.
+        ShownPart (source_run (program_of program.now) bytes room turns).trace bytes (S.left input.new) (K.put_bytes output.old) (K.put_bytes output.new))) }
+    ensures no_read_fault { OnOk result (S.faults input.new ≡ S.faults input.old) }
+    ensures no_write_fault { OnOk result (K.faults output.new ≡ K.faults output.old) }
+    ensures read_fault { IfErr result (λ e. OnReadFault e (Rose (S.faults input.old) (S.faults input.new))) }
+    ensures write_fault { IfErr result (λ e. OnWriteFault e (Rose (K.faults output.old) (K.faults output.new))) }
+    ensures source_never_falls { S.faults input.old ≤ S.faults input.new }
+    ensures sink_never_falls { K.faults output.old ≤ K.faults output.new }
+{
+    let unit = match program.main_unit(alloc) {
+        Ok(unit) => unit,
+        Err(_) => return Err(InterpretError::Memory),
+    };
+    let Some(left) = room else {
+        return run_main(alloc, program, unit, output);
+    };
+    if left < call_weight(unit) {
+        let entered = NumberList::of(Vec::new(alloc));
+        return Ok(Run { end: End::NoRoom, entered });
+    }
+    run_main(alloc, program, unit, output)
 }

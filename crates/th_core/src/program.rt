@@ -1,12 +1,13 @@
 //! Programs: modules that fit together.
-ghost use Rattle.std.specs.Prelude.{◌≡◌, ◌^◌, ◌<◌, ◌≤◌, ◌↔◌, length, IfOk, IfSome, IfNone, OnSome, IsNone, count_by};
-ghost use Rattle.th_core.specs.Tree.{program_of, unit_names};
+ghost use Rattle.std.specs.Prelude.{◌≡◌, ◌^◌, ◌<◌, ◌≤◌, ◌↔◌, length, IfOk, IfSome, IfNone, OnSome, IsNone, count_by, Some, slice_get};
+ghost use Rattle.th_core.specs.Tree.{program_of, unit_names, unit_of};
+ghost use Rattle.th_core.specs.Meaning.{mains};
 ghost use Rattle.th_core.specs.Fits.{Fits};
 ghost use Rattle.th_core.specs.Units.{IsUnit, Ordered, stands_before, unit_number};
 
 use crate::fits::{main_units, modules_fit};
 use crate::order::{differ, full_names, in_order, module_names};
-use crate::tree::CoreModule;
+use crate::tree::{CoreModule, CoreUnit};
 use std::alloc::{AllocError, Global};
 use std::marker::Model;
 use th_tree::Name;
@@ -62,6 +63,14 @@ impl CoreProgram {
             None => None,
             Some(name) => Some(name.as_bytes()),
         }
+    }
+
+    /// The unit `main`.
+    pub(crate) fn main_unit(&self, alloc: Global) -> Result<&CoreUnit, AllocError>
+        ensures { IfOk result (λ unit. slice_get (mains (program_of self.now)) 0 ≡ Some (unit_of unit.now)) }
+    {
+        let units = main_units(alloc, &self.modules)?;
+        Ok(units[0])
     }
 
     /// The number of the unit with this full name.
