@@ -1,11 +1,12 @@
 -- How a run starts, and what an answer of the interpreter says of the whole run.
 use Rattle.std.proofs.Common.{◌≡◌, ℕ, ◌<◌, ◌≤◌, ◌-◌, List, [], ◌∷◌, ◌++◌, true, false, refl, sym, ap, ◌∙◌, subst, arith, map, append-nil}
 use Rattle.std.specs.Prelude.{Option, Some, None, IfSome, option_map, nat_lt, slice_get}
-use Rattle.std.proofs.lemmas.Bool.{lt-ltb, le-ltb}
+use Rattle.std.proofs.lemmas.Bool.{le-ltb}
 use Rattle.th_world.specs.Event.{Event, Entered, puts, takes, entries, Prefix}
 use Rattle.th_runs.specs.Stand.{End, NoRoom, Stand}
 use Rattle.th_core.specs.Tree.{Body, ProgramUnit, Program}
 use Rattle.th_core.specs.Counts.{weight}
+use Rattle.th_core.specs.World.{lacks_room, without_room}
 use Rattle.th_core.specs.Meaning.{State, exec_body, mains, source_run, stand_of}
 use Rattle.th_core.specs.Units.{unit_number}
 use Rattle.th_core.specs.Run.{Answers, Shown, ShownPart, end_of}
@@ -13,12 +14,6 @@ use Rattle.th_core.specs.Steps.{Begun, Finished, Puts}
 use Rattle.th_core.specs.declared.interpret.Run.{Run}
 use Rattle.th_core.proofs.StepLemmas.{none_put}
 use Rattle.th_core.proofs.LoopLemmas.{puts-append, takes-append, entries-append}
-use Rattle.th_core.proofs.PutsRun.{no_room}
-
--- so much room is left
-abbrev pub HasRoom : Option ℕ → ℕ → Type 0
-HasRoom None k = Unit {0}
-HasRoom (Some room) k = k ≤ room
 
 -- with room for `main` the run is that of its statements from a state in which `main` alone was entered
 pub record Started (p : Program) (u : ProgramUnit) (bytes : List ℕ) (room : Option ℕ) (n : ℕ) : Type 0 where
@@ -26,21 +21,21 @@ pub record Started (p : Program) (u : ProgramUnit) (bytes : List ℕ) (room : Op
   pub trace : state.world.trace ≡ Entered u.name ∷ []
   pub is : source_run p bytes room n ≡ stand_of (exec_body u.body state)
 
-pub run_starts : (p : Program) (u : ProgramUnit) (bytes : List ℕ) (room : Option ℕ) (n : ℕ) → slice_get (mains p) 0 ≡ Some u → HasRoom room (weight u)
-    → Started p u bytes room n
-run_starts p u bytes None n found enough =
+pub run_starts : (p : Program) (u : ProgramUnit) (bytes : List ℕ) (room : Option ℕ) (n : ℕ) → slice_get (mains p) 0 ≡ Some u
+    → lacks_room room (weight u) ≡ false → Started p u bytes room n
+run_starts p u bytes room n found enough =
     let unspent : nat_lt n 0 ≡ false = le-ltb n 0 (omega arith) in
     record {
-    state = record { locals = []; world = record { input = bytes; turns = n - 0; room = None; trace = Entered u.name ∷ [] } };
+    state = record { locals = []; world = record { input = bytes; turns = n - 0; room = without_room room (weight u); trace = Entered u.name ∷ [] } };
     trace = refl;
-    is = rw (found, unspent) refl }
-run_starts p u bytes (Some room) n found enough =
+    is = rw (found, unspent, enough) refl }
+
+-- without room for `main` nothing is done
+without_start : (p : Program) (u : ProgramUnit) (bytes : List ℕ) (room : Option ℕ) (n : ℕ) → slice_get (mains p) 0 ≡ Some u
+    → lacks_room room (weight u) ≡ true → source_run p bytes room n ≡ record { end = NoRoom; trace = [] }
+without_start p u bytes room n found short =
     let unspent : nat_lt n 0 ≡ false = le-ltb n 0 (omega arith) in
-    let there : nat_lt room (weight u) ≡ false = le-ltb room (weight u) enough in
-    record {
-    state = record { locals = []; world = record { input = bytes; turns = n - 0; room = Some (room - weight u); trace = Entered u.name ∷ [] } };
-    trace = refl;
-    is = rw (found, unspent, there) refl }
+    rw (found, unspent, short) refl
 
 -- the run whose statements finished so
 finished_stand : (p : Program) (u : ProgramUnit) (bytes : List ℕ) (room : Option ℕ) (n : ℕ) (end : End) (before now : Option (List ℕ))
@@ -95,16 +90,16 @@ shows_nothing trace bytes left before unread = record {
   is_prefix = record { more = trace; is = sym (append-nil trace) };
   shown = shown_none bytes left before unread }
 
--- without the room for `main` nothing is done
-pub answers_no_room : (p : Program) (u : ProgramUnit) (run : Run) (bytes : List ℕ) (room n : ℕ) → slice_get (mains p) 0 ≡ Some u → room < weight u
-    → end_of run.end ≡ NoRoom → run.entered ≡ [] → Answers p run (source_run p bytes (Some room) n)
-answers_no_room p u run bytes room n found little end entered =
-    subst (Answers p run) (sym (no_room p u bytes room n found little)) (record { end = end; entered = entered })
+-- without room for `main` nothing is answered and shown
+pub answers_no_room : (p : Program) (u : ProgramUnit) (run : Run) (bytes : List ℕ) (room : Option ℕ) (n : ℕ) → slice_get (mains p) 0 ≡ Some u
+    → lacks_room room (weight u) ≡ true → end_of run.end ≡ NoRoom → run.entered ≡ [] → Answers p run (source_run p bytes room n)
+answers_no_room p u run bytes room n found short end entered =
+    subst (Answers p run) (sym (without_start p u bytes room n found short)) (record { end = end; entered = entered })
 
-pub shows_no_room : (p : Program) (u : ProgramUnit) (bytes : List ℕ) (room n : ℕ) (left before : Option (List ℕ)) → slice_get (mains p) 0 ≡ Some u
-    → room < weight u → left ≡ Some bytes → Shown (source_run p bytes (Some room) n).trace bytes left before before
-shows_no_room p u bytes room n left before found little unread =
-    subst (λ stand. Shown stand.trace bytes left before before) (sym (no_room p u bytes room n found little)) (shown_none bytes left before unread)
+pub shows_no_room : (p : Program) (u : ProgramUnit) (bytes : List ℕ) (room : Option ℕ) (n : ℕ) (left before : Option (List ℕ)) → slice_get (mains p) 0 ≡ Some u
+    → lacks_room room (weight u) ≡ true → left ≡ Some bytes → Shown (source_run p bytes room n).trace bytes left before before
+shows_no_room p u bytes room n left before found short unread =
+    subst (λ stand. Shown stand.trace bytes left before before) (sym (without_start p u bytes room n found short)) (shown_none bytes left before unread)
 
 -- what holds of each value that is there
 pub for_each : {A : Type 0} (o : Option A) (P : A → Type 0) → ((a : A) → o ≡ Some a → P a) → IfSome o P

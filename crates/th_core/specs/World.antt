@@ -1,5 +1,5 @@
 -- The world of a run, and the effects on it that can charge, fail or be seen.
-use Rattle.std.specs.Prelude.{ℕ, ◌-◌, List, ◌∷◌, Option, Some, None, ℤ, pos, negsuc, nat_lt, if◌then◌else◌, codes}
+use Rattle.std.specs.Prelude.{ℕ, ◌-◌, Bool, false, List, ◌∷◌, Option, Some, None, ℤ, pos, negsuc, nat_lt, if◌then◌else◌, codes}
 use Rattle.th_world.specs.Event.{Event, Put, Entered}
 
 -- a value: a number
@@ -34,14 +34,19 @@ and_then (Stops h w) f = Stops h w
 abbrev pub spend : ℕ → World → Effect (Unit {0})
 spend k w = if nat_lt w.turns k then Stops OutOfTurns w else Did tt (record w { turns = w.turns - k })
 
--- a charge of k bytes of room, where so much is left
-abbrev pub reserve_of : Option ℕ → ℕ → World → Effect (Unit {0})
-reserve_of None k w = Did tt w
-reserve_of (Some r) k w = if nat_lt r k then Stops OutOfRoom w else Did tt (record w { room = Some (r - k) })
+-- whether fewer than k bytes of room are left
+abbrev pub lacks_room : Option ℕ → ℕ → Bool
+lacks_room None k = false
+lacks_room (Some room) k = nat_lt room k
 
--- a charge of k bytes of room
+-- the room without k bytes of it
+abbrev pub without_room : Option ℕ → ℕ → Option ℕ
+without_room None k = None
+without_room (Some room) k = Some (room - k)
+
+-- a charge of k bytes of room, taken whole or not at all
 abbrev pub reserve : ℕ → World → Effect (Unit {0})
-reserve k w = reserve_of w.room k w
+reserve k w = if lacks_room w.room k then Stops OutOfRoom w else Did tt (record w { room = without_room w.room k })
 
 -- an event is seen
 abbrev pub note : Event → World → World

@@ -2,7 +2,7 @@
 ghost use Rattle.std.specs.Prelude.{pos, ◌≡◌, ◌≤◌, ◌<◌, ◌∷◌, ◌++◌, [], Option, Some, None, IfOk, IfErr, IfNone, IfSome, OnOk, OnErr, slice_get, option_map};
 ghost use Rattle.th_world.specs.Outside.{Rose};
 ghost use Rattle.th_core.specs.Tree.{PutByte, body_of, expr_of, program_of, stmt_of, unit_of};
-ghost use Rattle.th_core.specs.World.{Int};
+ghost use Rattle.th_core.specs.World.{Int, lacks_room};
 ghost use Rattle.th_core.specs.Counts.{weight};
 ghost use Rattle.th_core.specs.Meaning.{State, Gives, eval, source_run};
 ghost use Rattle.th_core.specs.Units.{unit_number};
@@ -66,6 +66,7 @@ fn exec_stmt<K: Sink>(alloc: Global, stmt: &CoreStmt, output: &mut K) -> Result<
     ensures none { OnErr result (K.put_bytes output.new ≡ K.put_bytes output.old) }
     ensures no_fault { OnOk result (K.faults output.new ≡ K.faults output.old) }
     ensures write_fault { IfErr result (λ e. OnWriteFault e (Rose (K.faults output.old) (K.faults output.new))) }
+    ensures no_read { IfErr result (λ e. OnReadFault e ⊥) }
     ensures never_falls { K.faults output.old ≤ K.faults output.new }
 {
     match stmt {
@@ -79,6 +80,7 @@ fn put_value<K: Sink>(alloc: Global, value: &CoreExpr, output: &mut K) -> Result
     ensures none { OnErr result (K.put_bytes output.new ≡ K.put_bytes output.old) }
     ensures no_fault { OnOk result (K.faults output.new ≡ K.faults output.old) }
     ensures write_fault { IfErr result (λ e. OnWriteFault e (Rose (K.faults output.old) (K.faults output.new))) }
+    ensures no_read { IfErr result (λ e. OnReadFault e ⊥) }
     ensures never_falls { K.faults output.old ≤ K.faults output.new }
 {
     let number = eval_expr(value);
@@ -122,6 +124,7 @@ fn step<'a, K: Sink>(alloc: Global, calls: &mut Vec<Call<'a>>, call: Call<'a>, o
     ensures none { OnErr result (K.put_bytes output.new ≡ K.put_bytes output.old) }
     ensures no_fault { OnOk result (K.faults output.new ≡ K.faults output.old) }
     ensures write_fault { IfErr result (λ e. OnWriteFault e (Rose (K.faults output.old) (K.faults output.new))) }
+    ensures no_read { IfErr result (λ e. OnReadFault e ⊥) }
     ensures never_falls { K.faults output.old ≤ K.faults output.new }
 {
     match call.rest {
@@ -140,6 +143,7 @@ fn run_body<K: Sink>(alloc: Global, body: &CoreBody, output: &mut K) -> Result<E
     ensures begun { OnErr result (Begun (body_of body.now) (K.put_bytes output.old) (K.put_bytes output.new)) }
     ensures no_fault { OnOk result (K.faults output.new ≡ K.faults output.old) }
     ensures write_fault { IfErr result (λ e. OnWriteFault e (Rose (K.faults output.old) (K.faults output.new))) }
+    ensures no_read { IfErr result (λ e. OnReadFault e ⊥) }
     ensures never_falls { K.faults output.old ≤ K.faults output.new }
 {
     let mut calls = Vec::new(alloc);
@@ -160,6 +164,7 @@ fn run_main<K: Sink>(alloc: Global, program: &CoreProgram, unit: &CoreUnit, outp
     ensures begun { OnErr result (Begun (body_of unit.now.body) (K.put_bytes output.old) (K.put_bytes output.new)) }
     ensures no_fault { OnOk result (K.faults output.new ≡ K.faults output.old) }
     ensures write_fault { IfErr result (λ e. OnWriteFault e (Rose (K.faults output.old) (K.faults output.new))) }
+    ensures no_read { IfErr result (λ e. OnReadFault e ⊥) }
     ensures never_falls { K.faults output.old ≤ K.faults output.new }
 {
     let mut entered = Vec::new(alloc);
@@ -201,12 +206,20 @@ pub fn interpret<S: Source, K: Sink>(
         Ok(unit) => unit,
         Err(_) => return Err(InterpretError::Memory),
     };
-    let Some(left) = room else {
-        return run_main(alloc, program, unit, output);
-    };
-    if left < call_weight(unit) {
+    if is_short(room, call_weight(unit)) {
         let entered = NumberList::of(Vec::new(alloc));
         return Ok(Run { end: End::NoRoom, entered });
     }
-    run_main(alloc, program, unit, output)
+    let run = run_main(alloc, program, unit, output)?;
+    Ok(run)
+}
+
+/// Whether less room is left than this weight.
+fn is_short(room: Option<u64>, weight: u64) -> bool
+    ensures { result ≡ lacks_room room weight }
+{
+    match room {
+        None => false,
+        Some(left) => left < weight,
+    }
 }
