@@ -1,5 +1,5 @@
 -- Open calls: how they go on, step by step.
-use Rattle.std.proofs.Common.{◌≡◌, ℕ, suc, ◌+◌, ◌<◌, List, [], ◌∷◌, ◌++◌, refl, sym, ap, ◌∙◌, subst, arith}
+use Rattle.std.proofs.Common.{◌≡◌, ℕ, suc, ◌+◌, ◌<◌, List, [], ◌∷◌, ◌++◌, refl, sym, ap, ◌∙◌, arith}
 use Rattle.std.specs.Prelude.{Option, Some, None}
 use Rattle.th_core.specs.declared.interpret.Call.{Call}
 use Rattle.th_core.specs.Tree.{Stmt, Body, Empty, Then, body_of}
@@ -32,7 +32,8 @@ pub call_ends : (calls : List Call) (call : Call) (before : Option (List ℕ)) �
 call_ends calls call before empty = record {
   more = [];
   is = λ st. resume-push calls call Done st ∙ ap (λ b. then_do (exec_body b st) (λ how1 st1. resume calls how1 st1)) empty;
-  shown = record { put = none_put before; no_take = refl; no_entry = refl } }
+  shown = record { put = none_put before; no_take = refl; no_entry = refl };
+}
 
 goes_on : (calls : List Call) (s : Stmt) (rest : Body) (next : Call) (raised : Option (List ℕ)) (st st1 : State)
     → body_of next.rest.now ≡ rest → exec s st ≡ ended_by raised st1
@@ -51,10 +52,11 @@ pub call_steps : (calls : List Call) (call next : Call) (s : Stmt) (rest : Body)
 call_steps calls call next s rest raised before now first left done = record {
   more = done.more;
   is = λ st.
-    resume-push calls call Done st
-    ∙ ap (λ b. then_do (exec_body b st) (λ how1 st1. resume calls how1 st1)) first
-    ∙ goes_on calls s rest next raised st (after done.more st) left (done.is st);
-  shown = done.shown }
+      resume-push calls call Done st
+      ∙ ap (λ b. then_do (exec_body b st) (λ how1 st1. resume calls how1 st1)) first
+      ∙ goes_on calls s rest next raised st (after done.more st) left (done.is st);
+  shown = done.shown;
+}
 
 -- the steps of one more call
 pub steps_left-push : (calls : List Call) (call : Call) → steps_left (calls ++ call ∷ []) ≡ steps_left calls + suc (body_length (body_of call.rest.now))

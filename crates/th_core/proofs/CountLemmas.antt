@@ -1,5 +1,5 @@
 -- The locals and the depth of units of puts.
-use Rattle.std.proofs.Common.{◌≡◌, ℕ, ◌≤◌, max, refl, arith}
+use Rattle.std.proofs.Common.{◌≡◌, ◌≤◌, refl, arith}
 use Rattle.th_core.specs.Tree.{Number, PutByte, Body, Empty, Then, ProgramUnit}
 use Rattle.th_core.specs.Counts.{body_locals, body_depth, unit_locals, unit_depth}
 

@@ -1,6 +1,6 @@
 -- An evaluation only adds events to its trace.
 use Rattle.std.proofs.Common.{◌≡◌, ℕ, Bool, true, false, List, [], ◌∷◌, ◌++◌, refl, sym, ap, ◌∙◌, append_assoc}
-use Rattle.std.specs.Prelude.{Option, Some, None, pos, negsuc, nat_lt, if◌then◌else◌}
+use Rattle.std.specs.Prelude.{None, pos, negsuc, nat_lt, if◌then◌else◌}
 use Rattle.th_world.specs.Event.{Event, Put, Prefix}
 use Rattle.th_core.specs.declared.interpret.Call.{Call}
 use Rattle.th_core.specs.Tree.{Expr, Number, Stmt, PutByte, Body, Empty, Then, body_of}
@@ -20,7 +20,8 @@ prefix_refl t = record { more = []; is = refl }
 prefix_trans : (t u v : List Event) → Prefix t u → Prefix u v → Prefix t v
 prefix_trans t u v p q = record {
   more = q.more ++ p.more;
-  is = q.is ∙ ap (λ x. q.more ++ x) p.is ∙ sym (append_assoc q.more p.more t) }
+  is = q.is ∙ ap (λ x. q.more ++ x) p.is ∙ sym (append_assoc q.more p.more t);
+}
 
 then_extends : {A B : Type 0} (t : List Event) (o : Outcome A) (f : A → State → Outcome B) → Prefix t (trace_of o)
     → ((a : A) (st : State) → Prefix st.world.trace (trace_of (f a st))) → Prefix t (trace_of (then_do o f))

@@ -1,5 +1,5 @@
 -- When units and modules fit.
-use Rattle.std.proofs.Common.{◌≡◌, ◌↔◌, ℕ, ◌<◌, Bool, true, List, [], ◌∷◌, ◌++◌, map, length, get_or, refl, sym, ap, ◌∙◌, subst, arith, bytes_eq, ◌≢◌, Bor, IsTrue}
+use Rattle.std.proofs.Common.{◌≡◌, ◌↔◌, ℕ, Bool, List, ◌∷◌, ◌++◌, map, sym, ap, ◌∙◌, subst, bytes_eq, ◌≢◌, Bor, IsTrue}
 use Rattle.std.specs.Prelude.{codes, All, Option, Some, None, MatchOption}
 use Rattle.std.proofs.lemmas.Bool.Decides.{same_from_decides, Decides-like}
 use Rattle.std.proofs.lemmas.Slice.Eq.{bytes_eq-Decides}
@@ -23,8 +23,8 @@ pub main_tested : (m name item : List ℕ) (r : Bool) → name ≡ full_name m i
 main_tested m name item r named tested =
     let main : List ℕ = codes "main" in
     let whole : bytes_eq item main ≡ bytes_eq (full_name m item) (full_name m main) =
-        same_from_decides _ _ (bytes_eq-Decides item main)
-        (Decides-like (bytes_eq (full_name m item) (full_name m main)) (same_item m item main) (ap (full_name m)) (bytes_eq-Decides _ _)) in
+    same_from_decides _ _ (bytes_eq-Decides item main)
+    (Decides-like (bytes_eq (full_name m item) (full_name m main)) (same_item m item main) (ap (full_name m)) (bytes_eq-Decides _ _)) in
     tested ∙ whole ∙ ap (λ n. bytes_eq n (full_name m main)) (sym named)
 
 -- the name of the item of a unit that fits
@@ -49,10 +49,12 @@ pub module_tested : (m : CoreModule) (name : List ℕ) (units : List CoreUnit) (
     → (IsTrue r ↔ All (λ u. UnitFits name (unit_of u)) units) → IsTrue r ↔ ModuleFits (module_of m)
 module_tested m name units r same_name same_units is_name tested =
     let named : IsTrue r ↔ All (λ u. UnitFits m.name (unit_of u)) units =
-        subst (λ n. IsTrue r ↔ All (λ u. UnitFits n (unit_of u)) units) same_name tested in
+    subst (λ n. IsTrue r ↔ All (λ u. UnitFits n (unit_of u)) units) same_name tested in
     let whole : IsTrue r ↔ All (λ u. UnitFits m.name (unit_of u)) m.units.items =
-        subst (λ us. IsTrue r ↔ All (λ u. UnitFits m.name (unit_of u)) us) same_units named in
-    (λ yes. record {
-    named = subst IsName same_name is_name;
-    units = All-map (UnitFits m.name) unit_of m.units.items (whole.0 yes) },
-    λ fits. whole.1 (All-image (UnitFits m.name) unit_of m.units.items fits.units))
+    subst (λ us. IsTrue r ↔ All (λ u. UnitFits m.name (unit_of u)) us) same_units named in (
+      λ yes. record {
+        named = subst IsName same_name is_name;
+        units = All-map (UnitFits m.name) unit_of m.units.items (whole.0 yes);
+      },
+      λ fits. whole.1 (All-image (UnitFits m.name) unit_of m.units.items fits.units),
+    )

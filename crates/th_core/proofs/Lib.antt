@@ -9,3 +9,4 @@ pub mod ExtendLemmas
 pub mod LoopLemmas
 pub mod CountLemmas
 pub mod StartLemmas
+mod Examples

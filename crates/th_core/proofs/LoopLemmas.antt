@@ -46,9 +46,10 @@ map_twice (Some bs) xs ys = ap Some (append_assoc bs xs ys)
 more_puts : (first later : List Event) (before mid now : Option (List ℕ)) → Puts first before mid → Puts later mid now → Puts (later ++ first) before now
 more_puts first later before mid now p q = record {
   put = q.put ∙ ap (option_map (λ bs. bs ++ puts later)) p.put ∙ map_twice before (puts first) (puts later)
-    ∙ ap (λ xs. option_map (λ bs. bs ++ xs) before) (sym (puts-append later first));
+      ∙ ap (λ xs. option_map (λ bs. bs ++ xs) before) (sym (puts-append later first));
   no_take = takes-append later first ∙ ap (λ xs. xs ++ takes later) p.no_take ∙ q.no_take;
-  no_entry = entries-append later first ∙ ap (λ xs. xs ++ entries later) p.no_entry ∙ q.no_entry }
+  no_entry = entries-append later first ∙ ap (λ xs. xs ++ entries later) p.no_entry ∙ q.no_entry;
+}
 
 later_state : (later first : List Event) (st : State) → after later (after first st) ≡ after (later ++ first) st
 later_state later first st =
@@ -59,7 +60,8 @@ pub loop_begins : (call : Call) (before : Option (List ℕ)) → InLoop (body_of
 loop_begins call before = record {
   more = [];
   is = λ st. refl;
-  shown = record { put = none_put before; no_take = refl; no_entry = refl } }
+  shown = record { put = none_put before; no_take = refl; no_entry = refl };
+}
 
 -- a step
 pub loop_goes_on : (body : Body) (from to : List Call) (before mid now : Option (List ℕ)) → InLoop body from before mid → Stepped from to None mid now
@@ -67,7 +69,8 @@ pub loop_goes_on : (body : Body) (from to : List Call) (before mid now : Option 
 loop_goes_on body from to before mid now l s = record {
   more = s.more ++ l.more;
   is = λ st. l.is st ∙ s.is (after l.more st) ∙ ap (resume to Done) (later_state s.more l.more st);
-  shown = more_puts l.more s.more before mid now l.shown s.shown }
+  shown = more_puts l.more s.more before mid now l.shown s.shown;
+}
 
 -- a step that raised an exception
 pub loop_raises : (body : Body) (from to : List Call) (name : List ℕ) (before mid now : Option (List ℕ)) → InLoop body from before mid
@@ -75,8 +78,9 @@ pub loop_raises : (body : Body) (from to : List Call) (name : List ℕ) (before 
 loop_raises body from to name before mid now l s = record {
   more = s.more ++ l.more;
   is = λ st. ap stand_of (l.is st ∙ s.is (after l.more st))
-    ∙ ap (λ t. record { end = Raised name; trace = t }) (sym (append_assoc s.more l.more st.world.trace));
-  shown = more_puts l.more s.more before mid now l.shown s.shown }
+      ∙ ap (λ t. record { end = Raised name; trace = t }) (sym (append_assoc s.more l.more st.world.trace));
+  shown = more_puts l.more s.more before mid now l.shown s.shown;
+}
 
 -- no call is open
 pub loop_ends : (body : Body) (before now : Option (List ℕ)) → InLoop body [] before now → Finished body Ended before now
@@ -87,11 +91,13 @@ pub loop_begun : (body : Body) (calls : List Call) (before now : Option (List �
 loop_begun body calls before now l = record {
   more = l.more;
   is = λ st. subst (λ o. Prefix (l.more ++ st.world.trace) (stand_of o).trace) (sym (l.is st)) (calls_extend calls Done (after l.more st));
-  shown = l.shown }
+  shown = l.shown;
+}
 
 -- nothing was done yet
 pub none_begun : (body : Body) (before : Option (List ℕ)) → Begun body before before
 none_begun body before = record {
   more = [];
   is = λ st. body_extends body st;
-  shown = record { put = none_put before; no_take = refl; no_entry = refl } }
+  shown = record { put = none_put before; no_take = refl; no_entry = refl };
+}

@@ -1,12 +1,12 @@
 -- When bytes are a name.
-use Rattle.std.proofs.Common.{◌≡◌, ◌↔◌, ℕ, Bool, true, false, not, ◌&&◌, List, [], ◌∷◌, refl, ap, sym, ◌∙◌, subst, IsTrue, is_some}
+use Rattle.std.proofs.Common.{◌≡◌, ◌↔◌, ℕ, Bool, true, false, not, ◌&&◌, List, [], ◌∷◌, refl, ap, sym, subst, IsTrue, is_some}
 use Rattle.std.specs.Prelude.{if◌then◌else◌, Option, Some, None, nat_eq, nat_le}
 use Rattle.std.specs.List.{list_all}
 use Rattle.th_tree.specs.declared.tokens.Reserved.{Reserved}
 use Rattle.th_tree.specs.declared.tokens.Sym.{Sym}
 use Rattle.th_tree.specs.declared.tokens.TokenKind.{TokenKind}
-use Rattle.th_tree.specs.declared.tokens.TokenKind.TheVariants.{Name, Word, Number, Symbol, Text}
-use Rattle.th_tree.specs.Tokens.{all, kind_of, word_kind, symbol_kind, is_letter, is_inner, is_digit, reserved_of, symbol_of, closes, value}
+use Rattle.th_tree.specs.declared.tokens.TokenKind.TheVariants.{Name, Number, Text}
+use Rattle.th_tree.specs.Tokens.{all, word_kind, symbol_kind, is_letter, is_inner, is_digit, reserved_of, symbol_of, closes, value}
 use Rattle.th_core.specs.Names.{IsName}
 
 -- the two ways to say that each byte passes a test
@@ -41,7 +41,7 @@ pub name_test : (b : ℕ) (bs : List ℕ)
 unfolding other_kind
 name_test b bs = rw (list_all-all is_inner bs)
     (word_test (is_letter b) (all is_inner bs) (reserved_of (b ∷ bs)) _
-        (no_name (is_digit b) (all is_digit bs && nat_le (value 0 (b ∷ bs)) 2147483647) (nat_eq b 34) (closes bs) (value 0 (b ∷ bs)) (symbol_of (b ∷ bs))))
+    (no_name (is_digit b) (all is_digit bs && nat_le (value 0 (b ∷ bs)) 2147483647) (nat_eq b 34) (closes bs) (value 0 (b ∷ bs)) (symbol_of (b ∷ bs))))
 
 -- the same of bytes in two parts, and a test that was made
 pub name_tested : (bytes : List ℕ) (first : ℕ) (rest : List ℕ) (r : Bool) → bytes ≡ first ∷ rest

@@ -1,6 +1,6 @@
 -- Names in order, and names that differ.
-use Rattle.std.proofs.Common.{◌≡◌, ℕ, ◌<◌, ◌≤◌, ◌+◌, ◌-◌, Bool, true, false, List, [], ◌∷◌, ◌++◌, map, take, length, get_or, refl, sym, ap, ◌∙◌, subst, arith, bytes_eq, IsPermutation, append-nil}
-use Rattle.std.specs.List.{IsDistinct, flat_map}
+use Rattle.std.proofs.Common.{◌≡◌, ℕ, ◌<◌, ◌≤◌, ◌+◌, ◌-◌, true, false, List, [], ◌∷◌, ◌++◌, map, take, length, get_or, refl, sym, ap, ◌∙◌, arith, bytes_eq, IsPermutation, append-nil}
+use Rattle.std.specs.List.{IsDistinct}
 use Rattle.std.specs.List.Sorted.{IsStrictlySortedBy, IsSortedBy}
 use Rattle.std.specs.Ordering.{nat_cmp, is_lt, is_eq, ordering_reverse}
 use Rattle.std.specs.declared.cmp.Ordering.{Ordering}
@@ -15,7 +15,7 @@ use Rattle.std.proofs.lemmas.List.{map-append, take_more, get_or_default}
 use Rattle.std.proofs.lemmas.Grind.{flat_map-append}
 use Rattle.std.proofs.lemmas.Simd.{map-map}
 use Rattle.th_core.specs.declared.tree.CoreModule.{CoreModule}
-use Rattle.th_core.specs.Tree.{program_of, module_of, unit_of, unit_names, units_of}
+use Rattle.th_core.specs.Tree.{program_of, module_of, unit_names}
 
 bytes_eq-flip : (xs ys : List ℕ) → bytes_eq xs ys ≡ bytes_eq ys xs
 bytes_eq-flip xs ys =
@@ -56,9 +56,9 @@ pub not_ascending : (names : List (List ℕ)) (i : ℕ) (a b : List ℕ) → 1 �
 not_ascending names i a b from below at_a at_b not_less up =
     let at_b' : b ≡ get_or names i a = at_b ∙ get_or_default names i b a below in
     let less : slice_cmp nat_cmp (get_or names (i - 1) a) (get_or names i a) ≡ Less =
-        Less-from_sorted (slice_cmp nat_cmp) names (i - 1) i a up (omega arith) below in
+    Less-from_sorted (slice_cmp nat_cmp) names (i - 1) i a up (omega arith) below in
     let here : slice_cmp nat_cmp a b ≡ Less =
-        ap (λ x. slice_cmp nat_cmp x b) at_a ∙ ap (λ x. slice_cmp nat_cmp (get_or names (i - 1) a) x) at_b' ∙ less in
+    ap (λ x. slice_cmp nat_cmp x b) at_a ∙ ap (λ x. slice_cmp nat_cmp (get_or names (i - 1) a) x) at_b' ∙ less in
     let yes : is_lt (slice_cmp nat_cmp a b) ≡ true = ap is_lt here in
     cc
 

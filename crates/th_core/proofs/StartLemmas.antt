@@ -1,10 +1,10 @@
 -- How a run starts, and what an answer of the interpreter says of the whole run.
-use Rattle.std.proofs.Common.{◌≡◌, ℕ, ◌<◌, ◌≤◌, ◌-◌, List, [], ◌∷◌, ◌++◌, true, false, refl, sym, ap, ◌∙◌, subst, arith, map, append-nil}
+use Rattle.std.proofs.Common.{◌≡◌, ℕ, ◌-◌, List, [], ◌∷◌, ◌++◌, true, false, refl, sym, ap, ◌∙◌, subst, arith, map, append-nil}
 use Rattle.std.specs.Prelude.{Option, Some, None, IfSome, option_map, nat_lt, slice_get}
 use Rattle.std.proofs.lemmas.Bool.{le-ltb}
-use Rattle.th_world.specs.Event.{Event, Entered, puts, takes, entries, Prefix}
-use Rattle.th_runs.specs.Stand.{End, NoRoom, Stand}
-use Rattle.th_core.specs.Tree.{Body, ProgramUnit, Program}
+use Rattle.th_world.specs.Event.{Event, Entered, takes, entries, Prefix}
+use Rattle.th_runs.specs.Stand.{End, NoRoom}
+use Rattle.th_core.specs.Tree.{ProgramUnit, Program}
 use Rattle.th_core.specs.Counts.{weight}
 use Rattle.th_core.specs.World.{lacks_room, without_room}
 use Rattle.th_core.specs.Meaning.{State, exec_body, mains, source_run, stand_of}
@@ -26,9 +26,10 @@ pub run_starts : (p : Program) (u : ProgramUnit) (bytes : List ℕ) (room : Opti
 run_starts p u bytes room n found enough =
     let unspent : nat_lt n 0 ≡ false = le-ltb n 0 (omega arith) in
     record {
-    state = record { locals = []; world = record { input = bytes; turns = n - 0; room = without_room room (weight u); trace = Entered u.name ∷ [] } };
-    trace = refl;
-    is = rw (found, unspent, enough) refl }
+      state = record { locals = []; world = record { input = bytes; turns = n - 0; room = without_room room (weight u); trace = Entered u.name ∷ [] } };
+      trace = refl;
+      is = rw (found, unspent, enough) refl;
+    }
 
 -- without room for `main` nothing is done
 without_start : (p : Program) (u : ProgramUnit) (bytes : List ℕ) (room : Option ℕ) (n : ℕ) → slice_get (mains p) 0 ≡ Some u
@@ -50,7 +51,7 @@ pub answers_run : (p : Program) (u : ProgramUnit) (run : Run) (bytes : List ℕ)
     → Answers p run (source_run p bytes room n)
 answers_run p u run bytes room n before now s f entered =
     let units : entries (f.more ++ Entered u.name ∷ []) ≡ u.name ∷ [] =
-        entries-append f.more (Entered u.name ∷ []) ∙ ap (λ ns. (u.name ∷ []) ++ ns) f.shown.no_entry in
+    entries-append f.more (Entered u.name ∷ []) ∙ ap (λ ns. (u.name ∷ []) ++ ns) f.shown.no_entry in
     subst (Answers p run) (sym (finished_stand p u bytes room n (end_of run.end) before now s f))
     (record { end = refl; entered = entered ∙ ap (map (unit_number p)) (sym units) })
 
@@ -59,8 +60,9 @@ shown_after : (name : List ℕ) (more : List Event) (bytes : List ℕ) (left bef
     → Shown (more ++ Entered name ∷ []) bytes left before now
 shown_after name more bytes left before now unread shown = record {
   taken = ap (λ l. option_map (λ rest. takes (more ++ Entered name ∷ []) ++ rest) l) unread
-    ∙ ap (λ xs. Some (xs ++ bytes)) (takes-append more (Entered name ∷ []) ∙ shown.no_take);
-  put = shown.put ∙ ap (λ xs. option_map (λ bs. bs ++ xs) before) (sym (puts-append more (Entered name ∷ []))) }
+      ∙ ap (λ xs. Some (xs ++ bytes)) (takes-append more (Entered name ∷ []) ∙ shown.no_take);
+  put = shown.put ∙ ap (λ xs. option_map (λ bs. bs ++ xs) before) (sym (puts-append more (Entered name ∷ [])));
+}
 
 -- the streams show the trace of statements that finished
 pub shows_run : (p : Program) (u : ProgramUnit) (bytes : List ℕ) (room : Option ℕ) (n : ℕ) (end : End) (left before now : Option (List ℕ))
@@ -75,20 +77,23 @@ pub shows_part : (p : Program) (u : ProgramUnit) (bytes : List ℕ) (room : Opti
 shows_part p u bytes room n left before now s b unread = record {
   part = b.more ++ Entered u.name ∷ [];
   is_prefix = subst (λ t. Prefix (b.more ++ t) (source_run p bytes room n).trace) s.trace
-    (subst (λ stand. Prefix (b.more ++ s.state.world.trace) stand.trace) (sym s.is) (b.is s.state));
-  shown = shown_after u.name b.more bytes left before now unread b.shown }
+      (subst (λ stand. Prefix (b.more ++ s.state.world.trace) stand.trace) (sym s.is) (b.is s.state));
+  shown = shown_after u.name b.more bytes left before now unread b.shown;
+}
 
 -- streams that nothing was done to show the empty trace
 shown_none : (bytes : List ℕ) (left before : Option (List ℕ)) → left ≡ Some bytes → Shown [] bytes left before before
 shown_none bytes left before unread = record {
   taken = ap (λ l. option_map (λ rest. [] ++ rest) l) unread;
-  put = none_put before }
+  put = none_put before;
+}
 
 pub shows_nothing : (trace : List Event) (bytes : List ℕ) (left before : Option (List ℕ)) → left ≡ Some bytes → ShownPart trace bytes left before before
 shows_nothing trace bytes left before unread = record {
   part = [];
   is_prefix = record { more = trace; is = sym (append-nil trace) };
-  shown = shown_none bytes left before unread }
+  shown = shown_none bytes left before unread;
+}
 
 -- without room for `main` nothing is answered and shown
 pub answers_no_room : (p : Program) (u : ProgramUnit) (run : Run) (bytes : List ℕ) (room : Option ℕ) (n : ℕ) → slice_get (mains p) 0 ≡ Some u

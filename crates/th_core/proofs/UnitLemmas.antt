@@ -1,18 +1,17 @@
 -- The numbers of units, counted in names that ascend.
-use Rattle.std.proofs.Common.{◌≡◌, ℕ, zero, suc, ◌<◌, ◌≤◌, ◌+◌, Bool, true, false, cond, List, [], ◌∷◌, length, get_or, refl, sym, ap, ◌∙◌, subst, arith}
-use Rattle.std.specs.Prelude.{count_by, Contains}
-use Rattle.std.specs.List.Sorted.{IsStrictlySortedBy, IsPermutation}
+use Rattle.std.proofs.Common.{◌≡◌, ℕ, zero, suc, ◌<◌, ◌+◌, Bool, true, false, cond, List, [], ◌∷◌, length, get_or, refl, sym, ap, ◌∙◌, arith}
+use Rattle.std.specs.Prelude.{count_by}
+use Rattle.std.specs.List.Sorted.{IsStrictlySortedBy}
 use Rattle.std.specs.Ordering.{nat_cmp, is_lt, ordering_reverse}
-use Rattle.std.specs.declared.cmp.Ordering.{Ordering}
-use Rattle.std.specs.declared.cmp.Ordering.TheVariants.{Less, Equal, Greater}
+use Rattle.std.specs.declared.cmp.Ordering.TheVariants.{Less}
 use Rattle.std.specs.Cmp.Lexicographic.{slice_cmp, nat_list_cmp_total}
 use Rattle.std.proofs.lemmas.Cmp.{tied_itself}
 use Rattle.std.proofs.lemmas.Map.Keys.{Less-from_sorted, sorted_tail}
-use Rattle.std.proofs.lemmas.List.Sorted.{IsPermutation-sym, Contains-permutation, sum_by-IsPermutation, length_permutation}
+use Rattle.std.proofs.lemmas.List.Sorted.{IsPermutation-sym, Contains-permutation, sum_by-IsPermutation}
 use Rattle.std.proofs.lemmas.List.{get_or_default}
 use Rattle.std.proofs.lemmas.List.Sums.{sum_by-cons}
 use Rattle.th_core.specs.Tree.{Program, unit_names}
-use Rattle.th_core.specs.Units.{stands_before, unit_number, IsUnit, Ordered}
+use Rattle.th_core.specs.Units.{stands_before, IsUnit, Ordered}
 
 counted : (p : List ℕ → Bool) (y : List ℕ) (ys : List (List ℕ)) → p y ≡ true → count_by p (y ∷ ys) ≡ suc (count_by p ys)
 counted p y ys passes = sum_by-cons (λ x. cond (p x) 1 0) y ys ∙ ap (λ t. cond t 1 0 + count_by p ys) passes ∙ omega arith
@@ -26,7 +25,7 @@ none_before : (x : List ℕ) (ys : List (List ℕ)) → ((j : ℕ) → j < lengt
 none_before x [] after = refl
 none_before x (y ∷ ys) after =
     let later : stands_before y x ≡ false =
-        ap is_lt (nat_list_cmp_total.antisymm y x ∙ ap ordering_reverse (after 0 (omega arith))) in
+    ap is_lt (nat_list_cmp_total.antisymm y x ∙ ap ordering_reverse (after 0 (omega arith))) in
     uncounted (λ n. stands_before n x) y ys later ∙ none_before x ys (λ j below. after (suc j) (omega arith))
 
 -- so many names stand before the k-th of names that ascend
@@ -44,4 +43,5 @@ count_before (y ∷ ys) (suc k) up below =
 pub unit_at : (p : Program) (names : List (List ℕ)) (k : ℕ) → Ordered p names → k < length names → IsUnit p k (get_or names k [])
 unit_at p names k o below = record {
   named = Contains-permutation names (unit_names p) (get_or names k []) (IsPermutation-sym (unit_names p) names o.same) (k, below, get_or_default names k (get_or names k []) [] below);
-  is = sym (sum_by-IsPermutation (λ n. cond (stands_before n (get_or names k [])) 1 0) (unit_names p) names o.same) ∙ count_before names k o.ascending below }
+  is = sym (sum_by-IsPermutation (λ n. cond (stands_before n (get_or names k [])) 1 0) (unit_names p) names o.same) ∙ count_before names k o.ascending below;
+}

@@ -1,5 +1,5 @@
 -- What the interpreter's answers say of a run, and what its streams show of a trace.
-use Rattle.std.specs.Prelude.{◌≡◌, ℕ, List, [], ◌++◌, map, Option, None, Some, option_map, ⊤}
+use Rattle.std.specs.Prelude.{◌≡◌, ℕ, List, ◌++◌, map, Option, Some, option_map, ⊤}
 use Rattle.th_world.specs.Event.{Event, puts, takes, entries, Prefix}
 use Rattle.th_runs.specs.Stand.{Stand, End, Ended, Raised, NoTurns, NoRoom}
 use Rattle.th_core.specs.Tree.{Program}

@@ -106,7 +106,10 @@ fn is_main_unit(module: &CoreModule, unit: &CoreUnit) -> bool
 }
 
 /// The units that are `main` of their modules.
-pub(crate) fn main_units<'a>(alloc: Global, modules: &'a [CoreModule]) -> Result<Vec<&'a CoreUnit>, AllocError>
+pub(crate) fn main_units<'a>(
+    alloc: Global,
+    modules: &'a [CoreModule],
+) -> Result<Vec<&'a CoreUnit>, AllocError>
     ensures { IfOk result (λ units. map (λ u. unit_of u.now) units.items ≡ mains (program_of modules.now)) }
 {
     let mut units = Vec::new(alloc);

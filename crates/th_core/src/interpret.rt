@@ -61,7 +61,11 @@ fn eval_expr(expr: &CoreExpr) -> u32
 }
 
 /// Executes a statement, and gives the exception that it raised.
-fn exec_stmt<K: Sink>(alloc: Global, stmt: &CoreStmt, output: &mut K) -> Result<Option<Name>, InterpretError>
+fn exec_stmt<K: Sink>(
+    alloc: Global,
+    stmt: &CoreStmt,
+    output: &mut K,
+) -> Result<Option<Name>, InterpretError>
     ensures done { IfOk result (λ raised. Executed (stmt_of stmt.now) raised (K.put_bytes output.old) (K.put_bytes output.new)) }
     ensures none { OnErr result (K.put_bytes output.new ≡ K.put_bytes output.old) }
     ensures no_fault { OnOk result (K.faults output.new ≡ K.faults output.old) }
@@ -75,7 +79,11 @@ fn exec_stmt<K: Sink>(alloc: Global, stmt: &CoreStmt, output: &mut K) -> Result<
 }
 
 /// Puts the byte that the expression gives, and gives the exception that this raised.
-fn put_value<K: Sink>(alloc: Global, value: &CoreExpr, output: &mut K) -> Result<Option<Name>, InterpretError>
+fn put_value<K: Sink>(
+    alloc: Global,
+    value: &CoreExpr,
+    output: &mut K,
+) -> Result<Option<Name>, InterpretError>
     ensures done { IfOk result (λ raised. Executed (PutByte (expr_of value.now)) raised (K.put_bytes output.old) (K.put_bytes output.new)) }
     ensures none { OnErr result (K.put_bytes output.new ≡ K.put_bytes output.old) }
     ensures no_fault { OnOk result (K.faults output.new ≡ K.faults output.old) }
@@ -118,7 +126,12 @@ fn open_call<'a>(calls: &mut Vec<Call<'a>>, rest: &'a CoreBody) -> Result<(), In
 
 /// Executes the first statement that is left of the innermost call, and gives the exception that it raised; or
 /// ends the call.
-fn step<'a, K: Sink>(alloc: Global, calls: &mut Vec<Call<'a>>, call: Call<'a>, output: &mut K) -> Result<Option<Name>, InterpretError>
+fn step<'a, K: Sink>(
+    alloc: Global,
+    calls: &mut Vec<Call<'a>>,
+    call: Call<'a>,
+    output: &mut K,
+) -> Result<Option<Name>, InterpretError>
     ensures stepped { IfOk result (λ raised. Stepped (calls.old.items ++ call.entry ∷ []) calls.new.items raised (K.put_bytes output.old) (K.put_bytes output.new)) }
     ensures fewer { OnOk result (steps_left calls.new.items < steps_left (calls.old.items ++ call.entry ∷ [])) }
     ensures none { OnErr result (K.put_bytes output.new ≡ K.put_bytes output.old) }
@@ -158,7 +171,12 @@ fn run_body<K: Sink>(alloc: Global, body: &CoreBody, output: &mut K) -> Result<E
 }
 
 /// Enters `main`, which there is room for, and runs it.
-fn run_main<K: Sink>(alloc: Global, program: &CoreProgram, unit: &CoreUnit, output: &mut K) -> Result<Run, InterpretError>
+fn run_main<K: Sink>(
+    alloc: Global,
+    program: &CoreProgram,
+    unit: &CoreUnit,
+    output: &mut K,
+) -> Result<Run, InterpretError>
     ensures finished { IfOk result (λ run. Finished (body_of unit.now.body) (end_of run.end) (K.put_bytes output.old) (K.put_bytes output.new)) }
     ensures entered { IfOk result (λ run. run.entered ≡ unit_number (program_of program.now) unit.now.name ∷ []) }
     ensures begun { OnErr result (Begun (body_of unit.now.body) (K.put_bytes output.old) (K.put_bytes output.new)) }
@@ -208,7 +226,10 @@ pub fn interpret<S: Source, K: Sink>(
     };
     if is_short(room, call_weight(unit)) {
         let entered = NumberList::of(Vec::new(alloc));
-        return Ok(Run { end: End::NoRoom, entered });
+        return Ok(Run {
+            end: End::NoRoom,
+            entered,
+        });
     }
     let run = run_main(alloc, program, unit, output)?;
     Ok(run)

@@ -18,7 +18,11 @@ pub(crate) fn in_order(mut names: Vec<Name>) -> Option<Vec<Name>>
     ensures ascending { IfSome result (λ sorted. IsStrictlySortedBy (slice_cmp nat_cmp) sorted.items) }
 {
     names.sort_unstable_by(|a, b| a.as_bytes().cmp(b.as_bytes()));
-    if is_ascending(&names) { Some(names) } else { None }
+    if is_ascending(&names) {
+        Some(names)
+    } else {
+        None
+    }
 }
 
 /// Whether no two of the names are equal.

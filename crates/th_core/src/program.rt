@@ -22,7 +22,6 @@ pub struct CoreProgram {
 impl Model for CoreProgram {
     ghost use Rattle.std.specs.Prelude.{List};
     ghost use Rattle.th_core.specs.declared.tree.CoreModule.{CoreModule};
-
     ghost use Rattle.std.specs.Coded.{codes};
     ghost use Rattle.th_core.specs.contracts.tree.CoreBody as body;
 
@@ -106,5 +105,8 @@ fn fitting_names(alloc: Global, modules: &[CoreModule]) -> Result<Option<Vec<Nam
 fn names_before(names: &[Name], name: &[u8]) -> usize
     ensures { result ≡ count_by (λ other. stands_before other name.now) names.now }
 {
-    names.iter().filter(|other| other.as_bytes().cmp(name).is_lt()).count()
+    names
+        .iter()
+        .filter(|other| other.as_bytes().cmp(name).is_lt())
+        .count()
 }

@@ -1,4 +1,4 @@
-use Rattle.std.proofs.Common.{rules, ◌≡◌, ◌++◌, ◌∷◌, ℕ, List, ◌∙◌, bytes_eq, arith}
+use Rattle.std.proofs.Common.{rules, ◌≡◌, bytes_eq, arith}
 use Rattle.std.specs.Prelude.{codes}
 use Rattle.th_core.specs.Names.{full_name}
 use Rattle.th_core.proofs.FitLemmas.{main_tested}

@@ -12,6 +12,7 @@ loop-module-preserved c =
     (subst (λ m. ModuleFits (module_of m)) c.module-item.is (c.module_fits.ensures.0 c.if-not-module_fits.false))
 
 pub returns : goal.returns
-returns c =
-    (λ yes. subst (All (λ m. ModuleFits (module_of m))) (take_all c.loop-module.module-index c.args.modules.now c.loop-module-test.false) c.loop-module.invariant,
-    λ all. refl)
+returns c = (
+  λ yes. subst (All (λ m. ModuleFits (module_of m))) (take_all c.loop-module.module-index c.args.modules.now c.loop-module-test.false) c.loop-module.invariant,
+  λ all. refl,
+)

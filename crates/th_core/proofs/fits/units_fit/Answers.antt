@@ -1,4 +1,4 @@
-use Rattle.std.proofs.Common.{◌≡◌, true, false, arith, subst, refl, List, take, All}
+use Rattle.std.proofs.Common.{arith, subst, refl, All}
 use Rattle.std.proofs.lemmas.List.Elements.{All-more}
 use Rattle.std.proofs.lemmas.List.{take_all}
 use Rattle.th_core.specs.Tree.{unit_of}

@@ -1,4 +1,4 @@
-use Rattle.std.proofs.Common.{◌≡◌, arith}
+use Rattle.std.proofs.Common.{arith}
 use Rattle.th_core.proofs.StepLemmas.{put_executed, wide_executed}
 use Rattle.th_core.specs.Tree.{expr_of}
 use Rattle.th_core.proofs.interpret.put_value.Goals as goal

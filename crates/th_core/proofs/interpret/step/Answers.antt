@@ -1,7 +1,7 @@
-use Rattle.std.proofs.Common.{◌≡◌, ◌<◌, ◌++◌, ◌∷◌, [], List, arith, sym, ap, subst, ◌∙◌}
+use Rattle.std.proofs.Common.{◌<◌, ◌++◌, ◌∷◌, [], List, arith, sym, ap, subst}
 use Rattle.th_core.specs.declared.interpret.Call.{Call}
-use Rattle.th_core.specs.Tree.{Empty, body_of, stmt_of}
-use Rattle.th_core.specs.Steps.{Stepped, steps_left, body_length}
+use Rattle.th_core.specs.Tree.{body_of}
+use Rattle.th_core.specs.Steps.{Stepped, steps_left}
 use Rattle.th_core.proofs.CallLemmas.{call_ends, call_steps, fewer_steps, steps_left-push}
 use Rattle.th_core.proofs.interpret.step.Goals as goal
 

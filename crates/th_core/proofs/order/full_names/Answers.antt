@@ -1,5 +1,4 @@
-use Rattle.std.proofs.Common.{◌≡◌, ◌++◌, ◌+◌, map, take, arith}
-use Rattle.th_core.specs.Tree.{program_of, unit_names}
+use Rattle.std.proofs.Common.{arith}
 use Rattle.th_core.proofs.OrderLemmas.{unit_names_more}
 use Rattle.th_core.proofs.order.full_names.Goals as goal
 

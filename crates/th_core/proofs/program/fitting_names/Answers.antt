@@ -1,9 +1,9 @@
-use Rattle.std.proofs.Common.{rules, ◌≡◌, true, false, arith, sym, ap, ◌∙◌, subst, length, map, bytes_eq}
+use Rattle.std.proofs.Common.{rules, ◌≡◌, true, false, subst, length, bytes_eq}
 use Rattle.std.specs.List.{IsDistinct}
 use Rattle.std.proofs.lemmas.List.Elements.{All-map}
 use Rattle.std.proofs.lemmas.List.{length-map}
-use Rattle.th_core.specs.Tree.{program_of, module_of, unit_of, unit_names}
-use Rattle.th_core.specs.Fits.{Fits, ModuleFits}
+use Rattle.th_core.specs.Tree.{module_of}
+use Rattle.th_core.specs.Fits.{ModuleFits}
 use Rattle.th_core.proofs.FitLemmas.{All-image}
 use Rattle.th_core.proofs.program.fitting_names.Goals as goal
 
@@ -18,4 +18,5 @@ returns-in-Some-clause-fits c = record {
   modules_differ = subst (IsDistinct bytes_eq) c.in_ok-module_names.ensures (c.differ.ensures.0 c.if-not-differ.false);
   modules = All-map ModuleFits module_of c.args.modules.now (c.modules_fit.ensures.0 c.if-not-modules_fit.false);
   units_differ = subst (IsDistinct bytes_eq) c.in_ok-full_names.ensures c.in-Some.ensures.differ;
-  one_main = subst (λ us. length us ≡ 1) c.in_ok-main_units.ensures (rw length-map (search rules)) }
+  one_main = subst (λ us. length us ≡ 1) c.in_ok-main_units.ensures (rw length-map (search rules));
+}
