@@ -1,7 +1,7 @@
 -- Open calls: how they go on, step by step.
 use Rattle.std.proofs.Common.{◌≡◌, ℕ, suc, ◌+◌, ◌<◌, List, [], ◌∷◌, ◌++◌, refl, sym, ap, ◌∙◌, arith}
 use Rattle.std.specs.Prelude.{Option, Some, None}
-use Rattle.th_core.specs.declared.interpret.Call.{Call}
+use Rattle.th_core.specs.declared.interpreter.Call.{Call}
 use Rattle.th_core.specs.Tree.{Stmt, Body, Empty, Then, body_of}
 use Rattle.th_core.specs.Meaning.{State, Outcome, Gives, Raises, Halts, How, Done, exec, exec_body, then_do, if_done}
 use Rattle.th_core.specs.Steps.{after, Executed, ended_by, Stepped, resume, resume_unless, body_length, steps_left}

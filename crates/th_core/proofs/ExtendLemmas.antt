@@ -2,7 +2,7 @@
 use Rattle.std.proofs.Common.{◌≡◌, ℕ, Bool, true, false, List, [], ◌∷◌, ◌++◌, refl, sym, ap, ◌∙◌, append_assoc}
 use Rattle.std.specs.Prelude.{None, pos, negsuc, nat_lt, if◌then◌else◌}
 use Rattle.th_world.specs.Event.{Event, Put, Prefix}
-use Rattle.th_core.specs.declared.interpret.Call.{Call}
+use Rattle.th_core.specs.declared.interpreter.Call.{Call}
 use Rattle.th_core.specs.Tree.{Expr, Number, Stmt, PutByte, Body, Empty, Then, body_of}
 use Rattle.th_core.specs.World.{Value, Int, World, Effect, Did, Fails, note, bounds, put_byte}
 use Rattle.th_core.specs.Meaning.{State, Outcome, Gives, Raises, Halts, How, Done, Exit, Return, act, eval, exec, exec_body, if_done, stand_of, then_do}

@@ -3,7 +3,7 @@ use Rattle.std.proofs.Common.{◌≡◌, ℕ, List, [], ◌∷◌, ◌++◌, ref
 use Rattle.std.specs.Prelude.{Option, Some, None, option_map}
 use Rattle.th_world.specs.Event.{Event, Put, Took, FoundEnd, Entered, puts, takes, entries, Prefix}
 use Rattle.th_runs.specs.Stand.{Ended, Raised}
-use Rattle.th_core.specs.declared.interpret.Call.{Call}
+use Rattle.th_core.specs.declared.interpreter.Call.{Call}
 use Rattle.th_core.specs.Tree.{Body, body_of}
 use Rattle.th_core.specs.Meaning.{State, Done, exec_body, stand_of}
 use Rattle.th_core.specs.Steps.{after, Puts, Stepped, Finished, Begun, resume}

@@ -11,7 +11,7 @@ use Rattle.th_core.specs.Meaning.{State, exec_body, mains, source_run, stand_of}
 use Rattle.th_core.specs.Units.{unit_number}
 use Rattle.th_core.specs.Run.{Answers, Shown, ShownPart, end_of}
 use Rattle.th_core.specs.Steps.{Begun, Finished, Puts}
-use Rattle.th_core.specs.declared.interpret.Run.{Run}
+use Rattle.th_core.specs.declared.interpreter.Run.{Run}
 use Rattle.th_core.proofs.StepLemmas.{none_put}
 use Rattle.th_core.proofs.LoopLemmas.{puts-append, takes-append, entries-append}
 

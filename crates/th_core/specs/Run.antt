@@ -4,11 +4,11 @@ use Rattle.th_world.specs.Event.{Event, puts, takes, entries, Prefix}
 use Rattle.th_runs.specs.Stand.{Stand, End, Ended, Raised, NoTurns, NoRoom}
 use Rattle.th_core.specs.Tree.{Program}
 use Rattle.th_core.specs.Units.{unit_number}
-use Rattle.th_core.specs.declared.interpret.End.{End as CoreEnd}
-use Rattle.th_core.specs.declared.interpret.End.TheVariants.{Ended as CoreEnded, Raised as CoreRaised, NoTurns as CoreNoTurns, NoRoom as CoreNoRoom}
-use Rattle.th_core.specs.declared.interpret.Run.{Run}
-use Rattle.th_core.specs.declared.interpret.InterpretError.{InterpretError}
-use Rattle.th_core.specs.declared.interpret.InterpretError.TheVariants.{ReadFault, WriteFault, Memory}
+use Rattle.th_core.specs.declared.interpreter.End.{End as CoreEnd}
+use Rattle.th_core.specs.declared.interpreter.End.TheVariants.{Ended as CoreEnded, Raised as CoreRaised, NoTurns as CoreNoTurns, NoRoom as CoreNoRoom}
+use Rattle.th_core.specs.declared.interpreter.Run.{Run}
+use Rattle.th_core.specs.declared.interpreter.InterpretError.{InterpretError}
+use Rattle.th_core.specs.declared.interpreter.InterpretError.TheVariants.{ReadFault, WriteFault, Memory}
 
 -- the end of a run that an answer names
 abbrev pub end_of : CoreEnd → End

@@ -2,7 +2,7 @@
 use Rattle.std.specs.Prelude.{◌≡◌, ℕ, suc, ◌+◌, List, [], ◌∷◌, ◌++◌, Option, Some, None, option_map}
 use Rattle.th_world.specs.Event.{Event, puts, takes, entries, Prefix}
 use Rattle.th_runs.specs.Stand.{End}
-use Rattle.th_core.specs.declared.interpret.Call.{Call}
+use Rattle.th_core.specs.declared.interpreter.Call.{Call}
 use Rattle.th_core.specs.Tree.{Stmt, Body, Empty, Then, body_of}
 use Rattle.th_core.specs.Meaning.{State, Outcome, Gives, Raises, How, Done, exec, exec_body, stand_of, then_do}
 

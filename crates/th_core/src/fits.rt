@@ -10,10 +10,10 @@ use crate::tree::{CoreBody, CoreExpr, CoreModule, CoreStmt, CoreUnit};
 use std::alloc::{AllocError, Global};
 
 /// The item's name n of a full name M/n of the module M; None exactly where the name is not of this form.
-fn item_of<'a>(module: &[u8], name: &'a [u8]) -> Option<&'a [u8]>
-    ensures { MatchOption result ((item : List ℕ) → name.now ≢ full_name module.now item) (λ item. name.now ≡ full_name module.now item.now) }
+fn item_of<'a>(module_name: &[u8], name: &'a [u8]) -> Option<&'a [u8]>
+    ensures { MatchOption result ((item : List ℕ) → name.now ≢ full_name module_name.now item) (λ item. name.now ≡ full_name module_name.now item.now) }
 {
-    match bytes_after(module, name) {
+    match bytes_after(module_name, name) {
         None => None,
         Some(rest) => bytes_after(b"/", rest),
     }
@@ -39,19 +39,19 @@ pub(crate) fn modules_fit(modules: &[CoreModule]) -> bool
 }
 
 /// Whether the module fits by itself.
-fn module_fits(module: &CoreModule) -> bool
-    ensures { IsTrue result ↔ ModuleFits (module_of module.now) }
+fn module_fits(home: &CoreModule) -> bool
+    ensures { IsTrue result ↔ ModuleFits (module_of home.now) }
 {
-    let name = module.name.as_bytes();
-    is_name(name) && units_fit(name, &module.units)
+    let name = home.name.as_bytes();
+    is_name(name) && units_fit(name, &home.units)
 }
 
 /// Whether each unit fits in a module of this name.
-fn units_fit(module: &[u8], units: &[CoreUnit]) -> bool
-    ensures { IsTrue result ↔ All (λ u. UnitFits module.now (unit_of u)) units.now }
+fn units_fit(module_name: &[u8], units: &[CoreUnit]) -> bool
+    ensures { IsTrue result ↔ All (λ u. UnitFits module_name.now (unit_of u)) units.now }
 {
     for unit in units {
-        if !unit_fits(module, unit) {
+        if !unit_fits(module_name, unit) {
             return false;
         }
     }
@@ -59,10 +59,10 @@ fn units_fit(module: &[u8], units: &[CoreUnit]) -> bool
 }
 
 /// Whether the unit fits in a module of this name.
-fn unit_fits(module: &[u8], unit: &CoreUnit) -> bool
-    ensures { IsTrue result ↔ UnitFits module.now (unit_of unit.now) }
+fn unit_fits(module_name: &[u8], unit: &CoreUnit) -> bool
+    ensures { IsTrue result ↔ UnitFits module_name.now (unit_of unit.now) }
 {
-    match item_of(module, unit.name.as_bytes()) {
+    match item_of(module_name, unit.name.as_bytes()) {
         None => false,
         Some(item) => is_name(item) && body_fits(&unit.body),
     }
@@ -96,10 +96,10 @@ fn stmt_fits(stmt: &CoreStmt) -> bool
 }
 
 /// Whether the unit is the module's `main`.
-fn is_main_unit(module: &CoreModule, unit: &CoreUnit) -> bool
-    ensures { result ≡ is_main (module_of module.now) (unit_of unit.now) }
+fn is_main_unit(home: &CoreModule, unit: &CoreUnit) -> bool
+    ensures { result ≡ is_main (module_of home.now) (unit_of unit.now) }
 {
-    match item_of(module.name.as_bytes(), unit.name.as_bytes()) {
+    match item_of(home.name.as_bytes(), unit.name.as_bytes()) {
         None => false,
         Some(item) => item == b"main".as_slice(),
     }
@@ -120,12 +120,12 @@ pub(crate) fn main_units<'a>(
 }
 
 /// Puts the module's units that are its `main` after the others.
-fn push_mains<'a>(units: &mut Vec<&'a CoreUnit>, module: &'a CoreModule) -> Result<(), AllocError>
+fn push_mains<'a>(units: &mut Vec<&'a CoreUnit>, home: &'a CoreModule) -> Result<(), AllocError>
     ensures { OnOk result (map (λ u. unit_of u.now) units.new.items
-        ≡ map (λ u. unit_of u.now) units.old.items ++ filter (is_main (module_of module.now)) (map unit_of module.now.units.items)) }
+        ≡ map (λ u. unit_of u.now) units.old.items ++ filter (is_main (module_of home.now)) (map unit_of home.now.units.items)) }
 {
-    for unit in &module.units {
-        if is_main_unit(module, unit) {
+    for unit in &home.units {
+        if is_main_unit(home, unit) {
             units.push(unit)?;
         }
     }

@@ -3,13 +3,13 @@
 
 mod counts;
 mod fits;
-mod interpret;
+mod interpreter;
 mod names;
 mod order;
 mod program;
 mod tree;
 
 pub use counts::{depth, locals, nodes};
-pub use interpret::{End, InterpretError, Run};
+pub use interpreter::{End, InterpretError, Run, interpret};
 pub use program::CoreProgram;
 pub use tree::{CoreBody, CoreExpr, CoreModule, CoreStmt, CoreUnit};

@@ -6,6 +6,6 @@ use Rattle.th_core.proofs.fits.is_main_unit.Goals as goal
 
 pub returns-in-Some : goal.returns-in-Some
 returns-in-Some c =
-    let named : c.args.unit.now.name ≡ full_name c.args.module.now.name c.in-Some.item.now = grind arith in
+    let named : c.args.unit.now.name ≡ full_name c.args.home.now.name c.in-Some.item.now = grind arith in
     let tested : c.eq.result ≡ bytes_eq c.in-Some.item.now (codes "main") = search rules in
-    main_tested c.args.module.now.name c.args.unit.now.name c.in-Some.item.now c.eq.result named tested
+    main_tested c.args.home.now.name c.args.unit.now.name c.in-Some.item.now c.eq.result named tested

@@ -8,6 +8,6 @@ pub returns-else-is_name : goal.returns-else-is_name
 returns-else-is_name c = (
   λ yes. let no : c.is_name.result ≡ false = c.if-is_name.false in cc,
   λ fits.
-      let named : c.args.unit.now.name ≡ full_name c.args.module.now c.in-Some.item.now = grind arith in
-      c.is_name.ensures.1 (fitting_item c.args.module.now c.in-Some.item.now (unit_of c.args.unit.now) named fits),
+      let named : c.args.unit.now.name ≡ full_name c.args.module_name.now c.in-Some.item.now = grind arith in
+      c.is_name.ensures.1 (fitting_item c.args.module_name.now c.in-Some.item.now (unit_of c.args.unit.now) named fits),
 )

@@ -4,7 +4,7 @@ use Rattle.th_core.specs.Counts.{weight}
 use Rattle.th_core.specs.World.{lacks_room}
 use Rattle.th_core.proofs.StartLemmas.{run_starts, answers_run, shows_run, shows_part, shows_nothing, for_each}
 use Rattle.th_core.proofs.StepLemmas.{on_err}
-use Rattle.th_core.proofs.interpret.interpret.Goals as goal
+use Rattle.th_core.proofs.interpreter.interpret.Goals as goal
 
 pub returns-in-Err-clause-part : goal.returns-in-Err-clause-part
 returns-in-Err-clause-part g c = for_each _ _ (λ bytes unread. shows_nothing _ bytes _ _ unread)

@@ -1,7 +1,7 @@
 use Rattle.std.proofs.Common.{arith}
 use Rattle.th_core.proofs.StepLemmas.{put_executed, wide_executed}
 use Rattle.th_core.specs.Tree.{expr_of}
-use Rattle.th_core.proofs.interpret.put_value.Goals as goal
+use Rattle.th_core.proofs.interpreter.put_value.Goals as goal
 
 pub returns-then-number-gt255-clause-done : goal.returns-then-number-gt255-clause-done
 returns-then-number-gt255-clause-done g c =

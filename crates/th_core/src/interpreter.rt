@@ -7,7 +7,7 @@ ghost use Rattle.th_core.specs.Counts.{weight};
 ghost use Rattle.th_core.specs.Meaning.{State, Gives, eval, source_run};
 ghost use Rattle.th_core.specs.Units.{unit_number};
 ghost use Rattle.th_core.specs.Run.{Answers, OnReadFault, OnWriteFault, Shown, ShownPart, end_of};
-ghost use Rattle.th_core.specs.declared.interpret.InterpretError.TheVariants.{Memory};
+ghost use Rattle.th_core.specs.declared.interpreter.InterpretError.TheVariants.{Memory};
 ghost use Rattle.th_core.specs.Steps.{Begun, Executed, Finished, Stepped, steps_left};
 
 use crate::counts::call_weight;

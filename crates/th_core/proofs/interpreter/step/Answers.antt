@@ -1,9 +1,9 @@
 use Rattle.std.proofs.Common.{◌<◌, ◌++◌, ◌∷◌, [], List, arith, sym, ap, subst}
-use Rattle.th_core.specs.declared.interpret.Call.{Call}
+use Rattle.th_core.specs.declared.interpreter.Call.{Call}
 use Rattle.th_core.specs.Tree.{body_of}
 use Rattle.th_core.specs.Steps.{Stepped, steps_left}
 use Rattle.th_core.proofs.CallLemmas.{call_ends, call_steps, fewer_steps, steps_left-push}
-use Rattle.th_core.proofs.interpret.step.Goals as goal
+use Rattle.th_core.proofs.interpreter.step.Goals as goal
 
 pub returns-in-Empty-clause-stepped : goal.returns-in-Empty-clause-stepped
 returns-in-Empty-clause-stepped g c = call_ends c.args.calls.now.items c.args.call _ (ap body_of c.in-Empty.is)

@@ -1,10 +1,10 @@
 use Rattle.std.proofs.Common.{◌++◌, ◌∷◌, [], List, Some, None, sym, subst, ◌∙◌}
-use Rattle.th_core.specs.declared.interpret.Call.{Call}
+use Rattle.th_core.specs.declared.interpreter.Call.{Call}
 use Rattle.th_core.specs.Tree.{body_of}
 use Rattle.th_core.specs.Steps.{Stepped, Begun}
 use Rattle.th_core.proofs.LoopLemmas.{InLoop, loop_begins, loop_goes_on, loop_raises, loop_begun}
 use Rattle.th_core.proofs.StepLemmas.{on_err}
-use Rattle.th_core.proofs.interpret.run_body.Goals as goal
+use Rattle.th_core.proofs.interpreter.run_body.Goals as goal
 
 pub returns-in_err-open_call-clause-begun : goal.returns-in_err-open_call-clause-begun
 returns-in_err-open_call-clause-begun g c =

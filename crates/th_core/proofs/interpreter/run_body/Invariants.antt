@@ -2,7 +2,7 @@ use Rattle.std.proofs.Common.{◌≡◌}
 use Rattle.th_core.specs.Tree.{body_of}
 use Rattle.th_core.specs.Steps.{steps_left}
 use Rattle.th_core.proofs.LoopLemmas.{InLoop}
-use Rattle.th_core.proofs.interpret.run_body.Given as goal
+use Rattle.th_core.proofs.interpreter.run_body.Given as goal
 
 abbrev pub invariant-loop-call : goal.invariant-loop-call
 invariant-loop-call g l =
