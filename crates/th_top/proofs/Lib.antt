@@ -1,0 +1,6 @@
+pub mod Said
+pub mod Three
+pub mod Producing
+pub mod Expected
+pub mod Going
+pub mod Wrote
