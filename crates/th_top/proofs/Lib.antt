@@ -4,3 +4,5 @@ pub mod Producing
 pub mod Expected
 pub mod Going
 pub mod Wrote
+pub mod Events
+pub mod Derived
