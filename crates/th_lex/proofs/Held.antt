@@ -1,12 +1,12 @@
 -- The bytes of each token of a cutting are a token of its kind.
-use Rattle.std.proofs.Common.{◌≡◌, ℕ, zero, suc, ◌+◌, ◌-◌, List, [], ◌∷◌, ◌++◌, length, take, drop, slice_get, Option, Some, None, refl, sym, ◌∙◌, ap, subst, arith}
+use Rattle.std.proofs.Common.{◌≡◌, ℕ, zero, suc, ◌+◌, ◌-◌, List, ◌∷◌, ◌++◌, length, take, drop, slice_get, Some, refl, sym, ◌∙◌, ap, subst, arith}
 use Rattle.std.proofs.lemmas.List.{drop-drop}
 use Rattle.std.proofs.Math.Seq.{take-append_seam}
 use Rattle.th_tree.specs.declared.tokens.TokenKind.{TokenKind}
 use Rattle.th_tree.specs.declared.tokens.Token.{Token}
 use Rattle.th_tree.specs.Tokens.{kind_of}
 use Rattle.th_tree.specs.Spans.{bytes_of}
-use Rattle.th_tree.specs.Cut.{Longest, Gap, blank, comment, CutTo, there, gap, token}
+use Rattle.th_tree.specs.Cut.{Gap, blank, comment, CutTo, there, gap, token}
 use Rattle.th_lex.proofs.Fronts.{drop_here}
 
 gap_drop : {more text : List ℕ} {n : ℕ} → Gap more text n → more ≡ drop n text
