@@ -1,1 +1,4 @@
 pub mod Stand
+pub mod Runs
+pub mod Agreement
+pub mod Simulation

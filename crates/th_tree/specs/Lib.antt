@@ -1,3 +1,4 @@
 pub mod Tokens
 pub mod Cut
 pub mod Spans
+pub mod Names

@@ -2,9 +2,11 @@
 #![tactic(auto)]
 
 mod lists;
+mod name_table;
 mod names;
 mod tokens;
 
 pub use lists::{ByteList, NumberList};
+pub use name_table::NameTable;
 pub use names::Name;
 pub use tokens::{Reserved, Sym, Token, TokenKind, Tokens};

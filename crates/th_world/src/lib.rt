@@ -8,6 +8,12 @@ ghost use Rattle.std.specs.String.{string_bytes};
 ghost use Rattle.th_world.specs.Outside.{Rose, first_byte, without_first, with_file};
 ghost use Rattle.th_world.specs.Refusal.{OnAbsent, OnTooLarge, OnFailed, OnMemory};
 
+mod calls;
+mod mem_files;
+mod memory;
+
+pub use mem_files::MemFiles;
+pub use memory::{MemSink, MemSource};
 use std::alloc::Global;
 use thiserror::Error;
 
@@ -16,15 +22,19 @@ use thiserror::Error;
 #[error("the call failed")]
 pub struct Failed;
 
-/// Why a file was not read.
+/// Why a file was not read (docs/DEFINITIONS.md).
 #[derive(Clone, Copy, PartialEq, Eq, Debug, Drop, Error)]
 pub enum FileError {
+    /// No file has this name.
     #[error("no file has this name")]
     Absent,
+    /// The file has more bytes than the limit.
     #[error("the file has more bytes than the limit")]
     TooLarge,
+    /// A fault: the count of faults rose.
     #[error("the file could not be read")]
     Failed,
+    /// Want of memory.
     #[error("no memory for the bytes of the file")]
     Memory,
 }

@@ -1,0 +1,9 @@
+pub mod ByLength
+pub mod Fronts
+pub mod Right
+pub mod Quotes
+pub mod Signs
+pub mod Values
+pub mod Gaps
+pub mod Unique
+pub mod Steps

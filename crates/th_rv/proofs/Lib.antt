@@ -1,0 +1,4 @@
+pub mod Fields
+pub mod EncodeLemmas
+pub mod DecodeLemmas
+pub mod StepKeeps
