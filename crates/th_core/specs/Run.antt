@@ -45,3 +45,9 @@ abbrev pub OnWriteFault : InterpretError → Type 0 → Type 0
 OnWriteFault ReadFault P = ⊤
 OnWriteFault WriteFault P = P
 OnWriteFault Memory P = ⊤
+
+-- P holds where the error is `Memory`
+abbrev pub OnMemory : InterpretError → Type 0 → Type 0
+OnMemory ReadFault P = ⊤
+OnMemory WriteFault P = ⊤
+OnMemory Memory P = P

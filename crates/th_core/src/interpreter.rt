@@ -6,7 +6,7 @@ ghost use Rattle.th_core.specs.World.{Int, lacks_room};
 ghost use Rattle.th_core.specs.Counts.{weight};
 ghost use Rattle.th_core.specs.Meaning.{State, Gives, eval, source_run};
 ghost use Rattle.th_core.specs.Units.{unit_number};
-ghost use Rattle.th_core.specs.Run.{Answers, OnReadFault, OnWriteFault, Shown, ShownPart, end_of};
+ghost use Rattle.th_core.specs.Run.{Answers, OnMemory, OnReadFault, OnWriteFault, Shown, ShownPart, end_of};
 ghost use Rattle.th_core.specs.declared.interpreter.InterpretError.TheVariants.{Memory};
 ghost use Rattle.th_core.specs.Steps.{Begun, Executed, Finished, Stepped, steps_left};
 
@@ -71,6 +71,7 @@ fn exec_stmt<K: Sink>(
     ensures no_fault { OnOk result (K.faults output.new ≡ K.faults output.old) }
     ensures write_fault { IfErr result (λ e. OnWriteFault e (Rose (K.faults output.old) (K.faults output.new))) }
     ensures no_read { IfErr result (λ e. OnReadFault e ⊥) }
+    ensures memory { IfErr result (λ e. OnMemory e (K.faults output.new ≡ K.faults output.old)) }
     ensures never_falls { K.faults output.old ≤ K.faults output.new }
 {
     match stmt {
@@ -89,6 +90,7 @@ fn put_value<K: Sink>(
     ensures no_fault { OnOk result (K.faults output.new ≡ K.faults output.old) }
     ensures write_fault { IfErr result (λ e. OnWriteFault e (Rose (K.faults output.old) (K.faults output.new))) }
     ensures no_read { IfErr result (λ e. OnReadFault e ⊥) }
+    ensures memory { IfErr result (λ e. OnMemory e (K.faults output.new ≡ K.faults output.old)) }
     ensures never_falls { K.faults output.old ≤ K.faults output.new }
 {
     let number = eval_expr(value);
@@ -138,6 +140,7 @@ fn step<'a, K: Sink>(
     ensures no_fault { OnOk result (K.faults output.new ≡ K.faults output.old) }
     ensures write_fault { IfErr result (λ e. OnWriteFault e (Rose (K.faults output.old) (K.faults output.new))) }
     ensures no_read { IfErr result (λ e. OnReadFault e ⊥) }
+    ensures memory { IfErr result (λ e. OnMemory e (K.faults output.new ≡ K.faults output.old)) }
     ensures never_falls { K.faults output.old ≤ K.faults output.new }
 {
     match call.rest {
@@ -157,6 +160,7 @@ fn run_body<K: Sink>(alloc: Global, body: &CoreBody, output: &mut K) -> Result<E
     ensures no_fault { OnOk result (K.faults output.new ≡ K.faults output.old) }
     ensures write_fault { IfErr result (λ e. OnWriteFault e (Rose (K.faults output.old) (K.faults output.new))) }
     ensures no_read { IfErr result (λ e. OnReadFault e ⊥) }
+    ensures memory { IfErr result (λ e. OnMemory e (K.faults output.new ≡ K.faults output.old)) }
     ensures never_falls { K.faults output.old ≤ K.faults output.new }
 {
     let mut calls = Vec::new(alloc);
@@ -183,6 +187,7 @@ fn run_main<K: Sink>(
     ensures no_fault { OnOk result (K.faults output.new ≡ K.faults output.old) }
     ensures write_fault { IfErr result (λ e. OnWriteFault e (Rose (K.faults output.old) (K.faults output.new))) }
     ensures no_read { IfErr result (λ e. OnReadFault e ⊥) }
+    ensures memory { IfErr result (λ e. OnMemory e (K.faults output.new ≡ K.faults output.old)) }
     ensures never_falls { K.faults output.old ≤ K.faults output.new }
 {
     let mut entered = Vec::new(alloc);
@@ -217,6 +222,8 @@ pub fn interpret<S: Source, K: Sink>(
     ensures no_write_fault { OnOk result (K.faults output.new ≡ K.faults output.old) }
     ensures read_fault { IfErr result (λ e. OnReadFault e (Rose (S.faults input.old) (S.faults input.new))) }
     ensures write_fault { IfErr result (λ e. OnWriteFault e (Rose (K.faults output.old) (K.faults output.new))) }
+    ensures memory_source { IfErr result (λ e. OnMemory e (S.faults input.new ≡ S.faults input.old)) }
+    ensures memory_sink { IfErr result (λ e. OnMemory e (K.faults output.new ≡ K.faults output.old)) }
     ensures source_never_falls { S.faults input.old ≤ S.faults input.new }
     ensures sink_never_falls { K.faults output.old ≤ K.faults output.new }
 {

@@ -7,3 +7,4 @@ pub mod Values
 pub mod Gaps
 pub mod Unique
 pub mod Steps
+pub mod Held

@@ -1,7 +1,9 @@
 //! Cutting a text into tokens.
 #![tactic(auto)]
 
-ghost use Rattle.std.specs.Prelude.{◌≡◌, ◌≤◌, List, IfOk, IfSome, length};
+ghost use Rattle.std.specs.Prelude.{◌≡◌, ◌≤◌, ℕ, List, IfOk, IfSome, Some, length, slice_get};
+ghost use Rattle.th_tree.specs.Spans.{bytes_of};
+ghost use Rattle.th_tree.specs.Tokens.{kind_of};
 ghost use Rattle.th_tree.specs.declared.tokens.Token.{Token};
 ghost use Rattle.th_tree.specs.Cut.{Cut, HasVerdict, Verdict};
 ghost use Rattle.th_lex.specs.Answer.{verdict_of};
@@ -34,6 +36,7 @@ pub fn lex<'a>(alloc: Global, text: &'a [u8]) -> Result<Tokens<'a>, LexError>
     requires { length text.now ≤ 1073741824 }
     ensures text { IfOk result (λ tokens. tokens.text ≡ text.now) }
     ensures cut { IfOk result (λ tokens. Cut text.now tokens.list) }
+    ensures kinds { IfOk result (λ tokens. (k : ℕ) (token : Token) → slice_get tokens.list k ≡ Some token → kind_of (bytes_of text.now token) ≡ Some token.kind) }
     ensures verdict { IfSome (verdict_of result) (λ verdict. HasVerdict text.now verdict) }
     ensures only { IfSome (verdict_of result) (λ verdict. (other : Verdict) → HasVerdict text.now other → other ≡ verdict) }
 {

@@ -1,8 +1,9 @@
-use Rattle.std.proofs.Common.{◌≡◌, ◌+◌, ◌++◌, ◌∷◌, [], List, sym, subst, rules}
+use Rattle.std.proofs.Common.{◌≡◌, ◌+◌, ◌++◌, ◌∷◌, [], List, sym, subst, rules, refl, slice_get, Some}
 use Rattle.th_tree.specs.declared.tokens.Token.{Token}
 use Rattle.th_tree.specs.Cut.{Cut, Bad, Wide, Cuts}
 use Rattle.th_lex.proofs.Steps.{Done, past_gap, past_token, first_bad, first_wide, whole, in_order}
 use Rattle.th_lex.proofs.Unique.{one_verdict}
+use Rattle.th_lex.proofs.Held.{kinds}
 use Rattle.th_lex.proofs.lex.Goals as goal
 
 pub loop-at-preserved-in-Gap : goal.loop-at-preserved-in-Gap
@@ -38,3 +39,6 @@ returns-clause-verdict c = subst (λ (q : List Token). Cut c.args.text.now q) (s
 
 pub returns-clause-only : goal.returns-clause-only
 returns-clause-only c = λ other h. one_verdict c.args.text.now (Cuts c.of.result.list) other (subst (λ (q : List Token). Cut c.args.text.now q) (sym c.of.ensures.list) (whole _ _ _ c.loop-at.invariant c.loop-at-test.false)) h
+
+pub returns-clause-kinds : goal.returns-clause-kinds
+returns-clause-kinds c = λ k token s. kinds (whole _ _ _ c.loop-at.invariant c.loop-at-test.false) c.args.text.now refl k token (subst (λ (q : List Token). slice_get q k ≡ Some token) c.of.ensures.list s)
