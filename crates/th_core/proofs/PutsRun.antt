@@ -12,7 +12,11 @@ use Rattle.th_core.specs.Counts.{weight}
 use Rattle.th_core.specs.World.{World, note, Did}
 use Rattle.th_core.specs.Meaning.{State, Gives, Done, exec_body, source_run, mains, run_entered, stand_of}
 use Rattle.th_core.specs.Names.{full_name}
-use Rattle.th_core.specs.Puts.{puts_body, puts_trace, main_unit, main_program}
+use Rattle.th_core.specs.Puts.{puts_body, main_unit, main_program}
+
+-- the trace in which the unit is entered and then these bytes are put in order
+abbrev pub puts_trace : (unit : List ℕ) → List ℕ → List Event
+puts_trace unit bs = reverse (map Put bs) ++ (Entered unit ∷ [])
 
 -- the trace after these bytes are put
 abbrev put_all : List ℕ → List Event → List Event

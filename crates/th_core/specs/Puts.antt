@@ -1,6 +1,5 @@
--- Statements that put given bytes, one after another, and the trace that they leave.
-use Rattle.std.specs.Prelude.{ℕ, List, [], ◌∷◌, ◌++◌, map, reverse, codes}
-use Rattle.th_world.specs.Event.{Event, Put, Entered}
+-- Modules whose one unit `main` puts given bytes, one after another.
+use Rattle.std.specs.Prelude.{ℕ, List, [], ◌∷◌, codes}
 use Rattle.th_core.specs.Tree.{Number, PutByte, Body, Empty, Then, ProgramUnit, Program}
 use Rattle.th_core.specs.Names.{full_name}
 
@@ -8,10 +7,6 @@ use Rattle.th_core.specs.Names.{full_name}
 abbrev pub puts_body : List ℕ → Body
 puts_body [] = Empty
 puts_body (b ∷ bs) = Then (PutByte (Number b)) (puts_body bs)
-
--- the trace in which the unit is entered and then these bytes are put in order
-abbrev pub puts_trace : (unit : List ℕ) → List ℕ → List Event
-puts_trace unit bs = reverse (map Put bs) ++ (Entered unit ∷ [])
 
 -- the unit `main` of the module m with these statements
 abbrev pub main_unit : (m : List ℕ) → Body → ProgramUnit

@@ -11,13 +11,8 @@ use Rattle.th_rv.specs.Step.{State}
 use Rattle.th_elf.specs.declared.image.Image.{Image}
 use Rattle.th_elf.specs.Written.{written}
 use Rattle.th_elf.specs.Loadable.{segments_of}
+use Rattle.th_elf.specs.Lawful.{IsRegion}
 use Rattle.th_elf.specs.Run.{loaded, start, run, stand, names_of}
-
--- the sizes in bytes that a region may have
-pub record IsRegionSize (room : ℕ) : Type 0 where
-  pub least : 4096 ≤ room
-  pub most : room ≤ 67108864
-  pub whole : room % 16 ≡ 0
 
 -- each number of a list is a byte
 abbrev pub AreBytes : List ℕ → Type 0
@@ -48,5 +43,5 @@ pub record Agrees (image : Image) (program : Program) : Type 0 where
   -- each address of the map is that of a code word
   pub in_code : All (λ u. IsCodeAddress (length image.code) u.at) image.map
   -- on every input, in every lawful region, the machine's run agrees with the program's source
-  pub runs : (input : List ℕ) (room : ℕ) → AreBytes input → IsRegionSize room
+  pub runs : (input : List ℕ) (room : ℕ) → AreBytes input → IsRegion room
       → Agreement (source_run program input) (image_run image room input) room (length image.code)

@@ -1,5 +1,5 @@
 -- The machine with the count of the instructions that it retired, and what `step` and `give` do to it.
-use Rattle.std.specs.Prelude.{◌≡◌, ℕ, ◌+◌, ◌%◌, ◌≤◌, min, Option, Some, None, Bool, true, false}
+use Rattle.std.specs.Prelude.{◌≡◌, ℕ, ◌+◌, min, Option, Some, None, Bool, true, false}
 use Rattle.th_rv.specs.declared.instr.Cause.{Cause}
 use Rattle.th_rv.specs.Step.{State, Halt, Ended, Raised, RoomUsed, Act, Next, Puts, Gets, Halts, Traps, step}
 use Rattle.th_elf.specs.Run.{Machine, Status, Running, Stopped, Trapped, running, with_a0, no_byte}
@@ -10,12 +10,6 @@ use Rattle.th_mach.specs.declared.answer.Step.TheVariants as answer
 pub record Counted : Type 0 where
   pub machine : Machine
   pub retired : ℕ
-
--- a size of the region: from 4,096 to 67,108,864 bytes, a multiple of 16
-pub record IsRegion (size : ℕ) : Type 0 where
-  pub least : 4096 ≤ size
-  pub greatest : size ≤ 67108864
-  pub whole : size % 16 ≡ 0
 
 -- a machine that runs from a state on, and has retired nothing
 abbrev pub fresh : State → Counted

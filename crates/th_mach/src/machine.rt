@@ -4,9 +4,9 @@ ghost use Rattle.std.specs.Prelude.{◌≡◌, ◌<◌, ◌≤◌, ◌↔◌, �
 ghost use Rattle.th_rv.specs.Memory.{number_at, bytes_at};
 ghost use Rattle.th_rv.specs.Step.{reg, with_reg, step};
 ghost use Rattle.th_elf.specs.Run.{Running, with_a0, no_byte, first_regs, loaded};
-ghost use Rattle.th_elf.specs.Lawful.{AreLawful};
+ghost use Rattle.th_elf.specs.Lawful.{AreLawful, IsRegion};
 ghost use Rattle.th_mach.specs.Done.{act_of};
-ghost use Rattle.th_mach.specs.Counted.{IsRegion, fresh, retire, stepped, step_of, given, IsWaiting};
+ghost use Rattle.th_mach.specs.Counted.{fresh, retire, stepped, step_of, given, IsWaiting};
 ghost use Rattle.th_mach.specs.Status.{status_of, later_of};
 
 use crate::answer::Step;

@@ -3,7 +3,7 @@ use Rattle.std.proofs.Common.{◌≡◌, ℕ, ◌<◌, List, [], length, map, Op
 use Rattle.th_rv.specs.declared.instr.Cause.{Cause}
 use Rattle.th_rv.specs.Step as halt
 use Rattle.th_elf.specs.Run.{Machine, Stopped, Trapped, Retired, Retires, Trapping}
-use Rattle.th_link.specs.Agrees.{IsRegionSize}
+use Rattle.th_elf.specs.Lawful.{IsRegion}
 use Rattle.th_link.specs.Ends.{IsInTime}
 use Rattle.th_mach.specs.Counted.{Counted}
 use Rattle.th_mach.specs.declared.answer.Outcome.{Outcome}
@@ -15,8 +15,8 @@ use Rattle.th_top.specs.Answers.{region_size, step_limit}
 use Rattle.th_top.specs.Built.{Ends, IsExpected}
 
 -- the region of a run is lawful
-pub lawful_region : IsRegionSize region_size
-lawful_region = record { least = lit≤ tt; most = lit≤ tt; whole = refl }
+pub lawful_region : IsRegion region_size
+lawful_region = record { least = lit≤ tt; greatest = lit≤ tt; whole = refl }
 
 one_halt : (h k : halt.Halt) → Stopped h ≡ Stopped k → h ≡ k
 one_halt h k e = ap (λ s. elim s [ Stopped x ↦ x | _ ↦ h ]) e
