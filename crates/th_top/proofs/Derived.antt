@@ -17,45 +17,50 @@ use Rattle.th_mach.specs.declared.answer.Outcome.{Outcome}
 use Rattle.th_mach.specs.declared.answer.Outcome.TheVariants.{Ended, Raised, RoomUsed, StepsUsed, Trap, ReadFault, WriteFault}
 use Rattle.th_mach.specs.Ran as mach
 use Rattle.th_mach.specs.Ran.{Seen, Ran, TakesTold}
-use Rattle.th_top.specs.Words.{IsGo, IsCommand}
-use Rattle.th_top.specs.Outside.{Outside, Holds}
+use Rattle.th_words.specs.Words.{Command, Go, Run, IsCommand, IsNoCommand, IsAtMostOne}
+use Rattle.th_top.specs.Outside.{Outside, Untouched, Holds}
 use Rattle.th_top.specs.Report.{Report}
-use Rattle.th_top.specs.Answers.{Verdict, Done, BadFile, NotBuilt, NoMemory, StreamFailed, status_of, text_limit, step_limit, region_size, CannotRead, Tells, Executed, Went, Goes, Answers}
+use Rattle.th_top.specs.Answers.{Verdict, Done, BadFile, NotBuilt, BadElf, RunRaised, NoRoom, NoSteps, Trapped, NoMemory, StreamFailed, status_of, text_limit, step_limit, region_size, CannotRead, Unread, Tells, Executed, Went, Goes, Does, Answers}
 use Rattle.th_top.specs.Complete.{Given, NoFault, CompleteFor, RefusedFor, DidAsSource, HeadlineFor}
 use Rattle.th_top.proofs.Events.{trace_puts, trace_takes}
 use Rattle.th_top.proofs.Expected.{lawful_region}
 
--- a command has one pair of names
-same_file : (words : List (List ℕ)) (out file out1 file1 : List ℕ) → IsGo words out file → IsGo words out1 file1 → file ≡ file1
-same_file words out file out1 file1 a b = ap (λ ws. get_or ws 2 []) (sym a.is ∙ b.is)
+-- a command `go` has one pair of names
+file_of : Command → List ℕ
+file_of (Go out file) = file
+file_of (Run file region steps) = file
 
-some_one : {A : Type 0} (a b : A) → Some a ≡ Some b → a ≡ b
+same_file : (words : List (List ℕ)) (only : IsAtMostOne words) (out file out1 file1 : List ℕ) → IsCommand words (Go out file) → IsCommand words (Go out1 file1) → file ≡ file1
+unfolding file_of
+same_file words only out file out1 file1 a b = ap file_of (only (Go out file) (Go out1 file1) a b)
+
+pub some_one : {A : Type 0} (a b : A) → Some a ≡ Some b → a ≡ b
 some_one a b e = ap (λ o. elim o [ Some x ↦ x | None ↦ a ]) e
 
 -- a file that is told has one content
-same_text : (told : Option (List ℕ → Option (List ℕ))) (files : List ℕ → Option (List ℕ)) (file file1 text text1 : List ℕ) → Holds told file text → told ≡ Some files → file ≡ file1 → files file1 ≡ Some text1 → text ≡ text1
+pub same_text : (told : Option (List ℕ → Option (List ℕ))) (files : List ℕ → Option (List ℕ)) (file file1 text text1 : List ℕ) → Holds told file text → told ≡ Some files → file ≡ file1 → files file1 ≡ Some text1 → text ≡ text1
 same_text told files file file1 text text1 holds is same there =
     let P : Option (List ℕ → Option (List ℕ)) → Type 0 = λ o. Holds o file text in
     let held : files file ≡ Some text = subst P is holds in
     some_one text text1 (sym held ∙ ap files same ∙ there)
 
-given_text : (words : List (List ℕ)) (before : Outside) (text out file text1 : List ℕ) → Given words before text → IsGo words out file → Holds before.files file text1 → text1 ≡ text
-given_text words before text out file text1 g go holds =
-    same_text before.files g.files file g.file text1 text holds g.told (same_file words out file g.out g.file go g.is_go) g.there
+given_text : (words : List (List ℕ)) (only : IsAtMostOne words) (before : Outside) (text out file text1 : List ℕ) → Given words before text → IsCommand words (Go out file) → Holds before.files file text1 → text1 ≡ text
+given_text words only before text out file text1 g go holds =
+    same_text before.files g.files file g.file text1 text holds g.told (same_file words only out file g.out g.file go g.is_command) g.there
 
 -- a file isn't both there within the limit, and absent or above it
-not_both : (files : List ℕ → Option (List ℕ)) (file text : List ℕ) → files file ≡ Some text → length text ≤ text_limit → (files file ≡ None) ⊎ ((t : List ℕ) × (files file ≡ Some t) × (text_limit < length t)) → ⊥
-not_both files file text there within (inl none) = cc
-not_both files file text there within (inr (t, is, long)) =
+pub not_both : (limit : ℕ) (files : List ℕ → Option (List ℕ)) (file text : List ℕ) → files file ≡ Some text → length text ≤ limit → (files file ≡ None) ⊎ ((t : List ℕ) × (files file ≡ Some t) × (limit < length t)) → ⊥
+not_both limit files file text there within (inl none) = cc
+not_both limit files file text there within (inr (t, is, long)) =
     let same : length t ≡ length text = ap length (some_one t text (sym is ∙ there)) in
     omega (arith, same, long, within)
 
 -- a file that is there within the limit can be read
-can_read : (words : List (List ℕ)) (before : Outside) (text out file : List ℕ) → Given words before text → IsGo words out file → CannotRead before.files file → ⊥
-can_read words before text out file g go cannot =
-    let P : Option (List ℕ → Option (List ℕ)) → Type 0 = λ o. CannotRead o file in
-    let there : g.files file ≡ Some text = ap g.files (same_file words out file g.out g.file go g.is_go) ∙ g.there in
-    not_both g.files file text there g.within (subst P g.told cannot)
+can_read : (words : List (List ℕ)) (only : IsAtMostOne words) (before : Outside) (text out file : List ℕ) → Given words before text → IsCommand words (Go out file) → CannotRead text_limit before.files file → ⊥
+can_read words only before text out file g go cannot =
+    let P : Option (List ℕ → Option (List ℕ)) → Type 0 = λ o. CannotRead text_limit o file in
+    let there : g.files file ≡ Some text = ap g.files (same_file words only out file g.out g.file go g.is_command) ∙ g.there in
+    not_both text_limit g.files file text there g.within (subst P g.told cannot)
 
 -- a stream that failed has a count that rose
 fault_by : (outcome : Outcome) (n : ℕ) (middle later : Seen) (before_reads before_writes : ℕ) → middle.read_faults ≡ before_reads → middle.write_faults ≡ before_writes
@@ -77,66 +82,98 @@ no_stream_fault : (before later : Outside) → NoFault before later → Rose bef
 no_stream_fault before later none (inl rose) = none.read_faults rose
 no_stream_fault before later none (inr rose) = none.write_faults rose
 
-no_file_fault : (words : List (List ℕ)) (before later : Outside) (text out file name : List ℕ) → Given words before text → IsGo words out file → NoFault before later
-    → ((name ≡ file) × CannotRead before.files file × (later.file_faults ≡ before.file_faults)) ⊎ (((name ≡ file) ⊎ (name ≡ out)) × Rose before.file_faults later.file_faults) → ⊥
-no_file_fault words before later text out file name g go none (inl (same, cannot, count)) = can_read words before text out file g go cannot
-no_file_fault words before later text out file name g go none (inr (which, rose)) = none.file_faults rose
+no_unread : (words : List (List ℕ)) (only : IsAtMostOne words) (before later : Outside) (text out file : List ℕ) → Given words before text → IsCommand words (Go out file) → NoFault before later → Unread text_limit file before later → ⊥
+no_unread words only before later text out file g go none (same, inl cannot) = can_read words only before text out file g go cannot.0
+no_unread words only before later text out file g go none (same, inr rose) = none.file_faults rose
+
+no_file_fault : (words : List (List ℕ)) (only : IsAtMostOne words) (before later : Outside) (text out file name : List ℕ) → Given words before text → IsCommand words (Go out file) → NoFault before later
+    → ((name ≡ file) × Unread text_limit file before later) ⊎ ((name ≡ out) × Untouched before later × Rose before.file_faults later.file_faults) → ⊥
+no_file_fault words only before later text out file name g go none (inl unread) = no_unread words only before later text out file g go none unread.1
+no_file_fault words only before later text out file name g go none (inr unwritten) = none.file_faults unwritten.2
 
 built_of : (text : List ℕ) (tree : ProgramModule) → Means text tree → IsBuilt text
 built_of text tree m = (m.name, m.numbers, m.is_text)
 
 -- statuses of verdicts
+not_run : (words : List (List ℕ)) (only : IsAtMostOne words) (file out file1 : List ℕ) (region steps : ℕ) → IsCommand words (Run file region steps) → IsCommand words (Go out file1) → ⊥
+not_run words only file out file1 region steps a b = let e : Run file region steps ≡ Go out file1 = only (Run file region steps) (Go out file1) a b in cc
+
 no_command_status : (v : Verdict) (status : ℕ) → status ≡ status_of v → status ≡ 1 → ⊥
 no_command_status Done status is one = omega (arith, is, one)
 no_command_status (BadFile name) status is one = omega (arith, is, one)
 no_command_status (NotBuilt name) status is one = omega (arith, is, one)
 no_command_status NoMemory status is one = omega (arith, is, one)
 no_command_status StreamFailed status is one = omega (arith, is, one)
+no_command_status (BadElf name field) status is one = omega (arith, is, one)
+no_command_status (RunRaised name) status is one = omega (arith, is, one)
+no_command_status NoRoom status is one = omega (arith, is, one)
+no_command_status NoSteps status is one = omega (arith, is, one)
+no_command_status (Trapped cause pc) status is one = omega (arith, is, one)
 
 -- status 1 comes exactly where the words are no command
-pub command_exactly : (words : List (List ℕ)) (before later : Outside) (rb rl : Report) (status : ℕ) → Answers words before later rb rl status → (status ≡ 1) ↔ (IsCommand words → ⊥)
+pub command_exactly : (words : List (List ℕ)) (before later : Outside) (rb rl : Report) (status : ℕ) → Answers words before later rb rl status → (status ≡ 1) ↔ IsNoCommand words
 command_exactly words before later rb rl status (inl refused) = (λ one. refused.no_command, λ none. refused.answers)
 command_exactly words before later rb rl status (inr obeyed) = (
   λ one. absurd (no_command_status obeyed.verdict status obeyed.answers one),
-  λ none. absurd (none (obeyed.out, obeyed.file, obeyed.is_go)),
+  λ none. absurd (none obeyed.command obeyed.is_command),
 )
 
-complete_by : (words : List (List ℕ)) (before later : Outside) (status : ℕ) (text out file : List ℕ) → Given words before text → IsBuilt text → NoFault before later → IsGo words out file
+complete_by : (words : List (List ℕ)) (only : IsAtMostOne words) (before later : Outside) (status : ℕ) (text out file : List ℕ) → Given words before text → IsBuilt text → NoFault before later → IsCommand words (Go out file)
     → (v : Verdict) → Goes out file before later v → status ≡ status_of v → (status ≡ 0) ⊎ (status ≡ 9)
-complete_by words before later status text out file g built none go Done goes is = inl is
-complete_by words before later status text out file g built none go NoMemory goes is = inr is
-complete_by words before later status text out file g built none go (BadFile name) goes is = absurd (no_file_fault words before later text out file name g go none goes.1)
-complete_by words before later status text out file g built none go (NotBuilt name) goes is =
-    let other : goes.3.0 ≡ text = given_text words before text out file goes.3.0 g go goes.3.1 in
+complete_by words only before later status text out file g built none go Done goes is = inl is
+complete_by words only before later status text out file g built none go NoMemory goes is = inr is
+complete_by words only before later status text out file g built none go (BadFile name) goes is = absurd (no_file_fault words only before later text out file name g go none goes)
+complete_by words only before later status text out file g built none go (NotBuilt name) goes is =
+    let other : goes.3.0 ≡ text = given_text words only before text out file goes.3.0 g go goes.3.1 in
     absurd (goes.3.3 (subst IsBuilt (sym other) built))
-complete_by words before later status text out file g built none go StreamFailed goes is = absurd (no_stream_fault before later none (stream_rose out goes.tree before later goes.executed))
+complete_by words only before later status text out file g built none go StreamFailed goes is = absurd (no_stream_fault before later none (stream_rose out goes.tree before later goes.executed))
+complete_by words only before later status text out file g built none go (BadElf name field) goes is = absurd goes
+complete_by words only before later status text out file g built none go (RunRaised name) goes is = absurd goes
+complete_by words only before later status text out file g built none go NoRoom goes is = absurd goes
+complete_by words only before later status text out file g built none go NoSteps goes is = absurd goes
+complete_by words only before later status text out file g built none go (Trapped cause pc) goes is = absurd goes
+
+complete_of : (words : List (List ℕ)) (only : IsAtMostOne words) (before later : Outside) (status : ℕ) (text : List ℕ) → Given words before text → IsBuilt text → NoFault before later → (command : Command) → IsCommand words command
+    → (v : Verdict) → Does command before later v → status ≡ status_of v → (status ≡ 0) ⊎ (status ≡ 9)
+complete_of words only before later status text g built none (Go out file) is v does answers = complete_by words only before later status text out file g built none is v does answers
+complete_of words only before later status text g built none (Run file region steps) is v does answers = absurd (not_run words only file g.out g.file region steps is g.is_command)
 
 -- a text that is built gives status 0, or 9 for want of memory
-pub complete : (words : List (List ℕ)) (before later : Outside) (rb rl : Report) (status : ℕ) → Answers words before later rb rl status → CompleteFor words before later status
-complete words before later rb rl status (inl refused) = λ text g built none. absurd (refused.no_command (g.out, g.file, g.is_go))
-complete words before later rb rl status (inr obeyed) =
-    λ text g built none. complete_by words before later status text obeyed.out obeyed.file g built none obeyed.is_go obeyed.verdict obeyed.goes obeyed.answers
+pub complete : (words : List (List ℕ)) (only : IsAtMostOne words) (before later : Outside) (rb rl : Report) (status : ℕ) → Answers words before later rb rl status → CompleteFor words before later status
+complete words only before later rb rl status (inl refused) = λ text g built none. absurd (refused.no_command (Go g.out g.file) g.is_command)
+complete words only before later rb rl status (inr obeyed) =
+    λ text g built none. complete_of words only before later status text g built none obeyed.command obeyed.is_command obeyed.verdict obeyed.does obeyed.answers
 
-went_built : (words : List (List ℕ)) (before later : Outside) (text out file : List ℕ) (v : Verdict) → Given words before text → IsGo words out file → Went out file before later v → IsBuilt text
-went_built words before later text out file v g go w =
-    subst IsBuilt (given_text words before text out file w.text g go w.holds) (built_of w.text w.tree w.means)
+went_built : (words : List (List ℕ)) (only : IsAtMostOne words) (before later : Outside) (text out file : List ℕ) (v : Verdict) → Given words before text → IsCommand words (Go out file) → Went out file before later v → IsBuilt text
+went_built words only before later text out file v g go w =
+    subst IsBuilt (given_text words only before text out file w.text g go w.holds) (built_of w.text w.tree w.means)
 
-refused_by : (words : List (List ℕ)) (before later : Outside) (status : ℕ) (text out file : List ℕ) → Given words before text → (IsBuilt text → ⊥) → NoFault before later → IsGo words out file
+refused_by : (words : List (List ℕ)) (only : IsAtMostOne words) (before later : Outside) (status : ℕ) (text out file : List ℕ) → Given words before text → (IsBuilt text → ⊥) → NoFault before later → IsCommand words (Go out file)
     → (v : Verdict) → Goes out file before later v → status ≡ status_of v → (status ≡ 3) ⊎ (status ≡ 9)
-refused_by words before later status text out file g unbuilt none go Done goes is = absurd (unbuilt (went_built words before later text out file Done g go goes))
-refused_by words before later status text out file g unbuilt none go NoMemory goes is = inr is
-refused_by words before later status text out file g unbuilt none go (BadFile name) goes is = absurd (no_file_fault words before later text out file name g go none goes.1)
-refused_by words before later status text out file g unbuilt none go (NotBuilt name) goes is = inl is
-refused_by words before later status text out file g unbuilt none go StreamFailed goes is = absurd (unbuilt (went_built words before later text out file StreamFailed g go goes))
+refused_by words only before later status text out file g unbuilt none go Done goes is = absurd (unbuilt (went_built words only before later text out file Done g go goes))
+refused_by words only before later status text out file g unbuilt none go NoMemory goes is = inr is
+refused_by words only before later status text out file g unbuilt none go (BadFile name) goes is = absurd (no_file_fault words only before later text out file name g go none goes)
+refused_by words only before later status text out file g unbuilt none go (NotBuilt name) goes is = inl is
+refused_by words only before later status text out file g unbuilt none go StreamFailed goes is = absurd (unbuilt (went_built words only before later text out file StreamFailed g go goes))
+refused_by words only before later status text out file g unbuilt none go (BadElf name field) goes is = absurd goes
+refused_by words only before later status text out file g unbuilt none go (RunRaised name) goes is = absurd goes
+refused_by words only before later status text out file g unbuilt none go NoRoom goes is = absurd goes
+refused_by words only before later status text out file g unbuilt none go NoSteps goes is = absurd goes
+refused_by words only before later status text out file g unbuilt none go (Trapped cause pc) goes is = absurd goes
+
+refused_of : (words : List (List ℕ)) (only : IsAtMostOne words) (before later : Outside) (status : ℕ) (text : List ℕ) → Given words before text → (IsBuilt text → ⊥) → NoFault before later → (command : Command) → IsCommand words command
+    → (v : Verdict) → Does command before later v → status ≡ status_of v → (status ≡ 3) ⊎ (status ≡ 9)
+refused_of words only before later status text g unbuilt none (Go out file) is v does answers = refused_by words only before later status text out file g unbuilt none is v does answers
+refused_of words only before later status text g unbuilt none (Run file region steps) is v does answers = absurd (not_run words only file g.out g.file region steps is g.is_command)
 
 -- a text that isn't built gives status 3, or 9 for want of memory
-pub refused : (words : List (List ℕ)) (before later : Outside) (rb rl : Report) (status : ℕ) → Answers words before later rb rl status → RefusedFor words before later status
-refused words before later rb rl status (inl unheard) = λ text g unbuilt none. absurd (unheard.no_command (g.out, g.file, g.is_go))
-refused words before later rb rl status (inr obeyed) =
-    λ text g unbuilt none. refused_by words before later status text obeyed.out obeyed.file g unbuilt none obeyed.is_go obeyed.verdict obeyed.goes obeyed.answers
+pub refused : (words : List (List ℕ)) (only : IsAtMostOne words) (before later : Outside) (rb rl : Report) (status : ℕ) → Answers words before later rb rl status → RefusedFor words before later status
+refused words only before later rb rl status (inl unheard) = λ text g unbuilt none. absurd (unheard.no_command (Go g.out g.file) g.is_command)
+refused words only before later rb rl status (inr obeyed) =
+    λ text g unbuilt none. refused_of words only before later status text g unbuilt none obeyed.command obeyed.is_command obeyed.verdict obeyed.does obeyed.answers
 
 -- an input that is told, after a log took of it
-took_told : (o l : Option (List ℕ)) (log : List Retired) (input : List ℕ) → TakesTold o log l → o ≡ Some input → (rest : List ℕ) × (l ≡ Some rest) × Takes input log rest
+pub took_told : (o l : Option (List ℕ)) (log : List Retired) (input : List ℕ) → TakesTold o log l → o ≡ Some input → (rest : List ℕ) × (l ≡ Some rest) × Takes input log rest
 took_told None l log input takes is = cc
 took_told (Some left) None log input takes is = absurd takes
 took_told (Some left) (Some rest) log input takes is =
@@ -173,9 +210,9 @@ source_ended image tree input steps t agrees bytes is ended =
     same_stand (source_run (tree ∷ []) input None steps) t (both.0 ∙ sym ended) (both.1 ∙ ap (λ (x : Stand). x.trace) is)
 
 -- a command that ended did what the source does
-did : (words : List (List ℕ)) (before later : Outside) (text input out file : List ℕ) → Given words before text → before.left ≡ Some input → AreBytes input → IsGo words out file
+did : (words : List (List ℕ)) (only : IsAtMostOne words) (before later : Outside) (text input out file : List ℕ) → Given words before text → before.left ≡ Some input → AreBytes input → IsCommand words (Go out file)
     → (w : Went out file before later Done) → DidAsSource words before later text input
-did words before later text input out file g told bytes go w =
+did words only before later text input out file g told bytes go w =
     let e : Executed out w.tree before later Done = w.executed in
     let log : List Retired = e.ran.log in
     let ended : (_ ≡ e.ran.middle) × (e.ran.middle.machine.status ≡ Stopped halt.Ended) × (length log ≤ step_limit) = ended_by e.outcome (length log) e.ran.middle _ e.tells e.ran.ends in
@@ -185,12 +222,12 @@ did words before later text input out file g told bytes go w =
     let source : source_run (w.tree ∷ []) input None (length log) ≡ t = source_ended e.image w.tree input (length log) t e.agrees bytes is refl in
     record {
       tree = w.tree;
-      means = subst (λ x. Means x w.tree) (given_text words before text out file w.text g go w.holds) w.means;
+      means = subst (λ x. Means x w.tree) (given_text words only before text out file w.text g go w.holds) w.means;
       image = e.image;
       agrees = e.agrees;
       out = out;
       file = file;
-      is_go = go;
+      is_command = go;
       files = e.files;
       steps = length log;
       few = ended.2;
@@ -203,16 +240,26 @@ did words before later text input out file g told bytes go w =
       taken = trace_takes (names_of e.image.map) log input taken.0 taken.2 ∙ ap (λ (x : Stand). takes x.trace ++ taken.0) (sym source);
     }
 
-headline_by : (words : List (List ℕ)) (before later : Outside) (status : ℕ) (text input out file : List ℕ) → Given words before text → before.left ≡ Some input → AreBytes input → status ≡ 0 → IsGo words out file
+headline_by : (words : List (List ℕ)) (only : IsAtMostOne words) (before later : Outside) (status : ℕ) (text input out file : List ℕ) → Given words before text → before.left ≡ Some input → AreBytes input → status ≡ 0 → IsCommand words (Go out file)
     → (v : Verdict) → Goes out file before later v → status ≡ status_of v → DidAsSource words before later text input
-headline_by words before later status text input out file g told bytes zero go Done goes is = did words before later text input out file g told bytes go goes
-headline_by words before later status text input out file g told bytes zero go NoMemory goes is = absurd (omega (arith, zero, is))
-headline_by words before later status text input out file g told bytes zero go (BadFile name) goes is = absurd (omega (arith, zero, is))
-headline_by words before later status text input out file g told bytes zero go (NotBuilt name) goes is = absurd (omega (arith, zero, is))
-headline_by words before later status text input out file g told bytes zero go StreamFailed goes is = absurd (omega (arith, zero, is))
+headline_by words only before later status text input out file g told bytes zero go Done goes is = did words only before later text input out file g told bytes go goes
+headline_by words only before later status text input out file g told bytes zero go NoMemory goes is = absurd (omega (arith, zero, is))
+headline_by words only before later status text input out file g told bytes zero go (BadFile name) goes is = absurd (omega (arith, zero, is))
+headline_by words only before later status text input out file g told bytes zero go (NotBuilt name) goes is = absurd (omega (arith, zero, is))
+headline_by words only before later status text input out file g told bytes zero go StreamFailed goes is = absurd (omega (arith, zero, is))
+headline_by words only before later status text input out file g told bytes zero go (BadElf name field) goes is = absurd goes
+headline_by words only before later status text input out file g told bytes zero go (RunRaised name) goes is = absurd goes
+headline_by words only before later status text input out file g told bytes zero go NoRoom goes is = absurd goes
+headline_by words only before later status text input out file g told bytes zero go NoSteps goes is = absurd goes
+headline_by words only before later status text input out file g told bytes zero go (Trapped cause pc) goes is = absurd goes
+
+headline_of : (words : List (List ℕ)) (only : IsAtMostOne words) (before later : Outside) (status : ℕ) (text input : List ℕ) → Given words before text → before.left ≡ Some input → AreBytes input → status ≡ 0 → (command : Command) → IsCommand words command
+    → (v : Verdict) → Does command before later v → status ≡ status_of v → DidAsSource words before later text input
+headline_of words only before later status text input g told bytes zero (Go out file) is v does answers = headline_by words only before later status text input out file g told bytes zero is v does answers
+headline_of words only before later status text input g told bytes zero (Run file region steps) is v does answers = absurd (not_run words only file g.out g.file region steps is g.is_command)
 
 -- status 0 says that the executable did what the source does
-pub headline : (words : List (List ℕ)) (before later : Outside) (rb rl : Report) (status : ℕ) → Answers words before later rb rl status → HeadlineFor words before later status
-headline words before later rb rl status (inl refused) = λ text input g told bytes zero. absurd (omega (arith, zero, refused.answers))
-headline words before later rb rl status (inr obeyed) =
-    λ text input g told bytes zero. headline_by words before later status text input obeyed.out obeyed.file g told bytes zero obeyed.is_go obeyed.verdict obeyed.goes obeyed.answers
+pub headline : (words : List (List ℕ)) (only : IsAtMostOne words) (before later : Outside) (rb rl : Report) (status : ℕ) → Answers words before later rb rl status → HeadlineFor words before later status
+headline words only before later rb rl status (inl refused) = λ text input g told bytes zero. absurd (omega (arith, zero, refused.answers))
+headline words only before later rb rl status (inr obeyed) =
+    λ text input g told bytes zero. headline_of words only before later status text input g told bytes zero obeyed.command obeyed.is_command obeyed.verdict obeyed.does obeyed.answers

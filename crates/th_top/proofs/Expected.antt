@@ -69,24 +69,28 @@ pub expected : (c : Counted) (put left : Option (List ℕ)) (read_faults write_f
     → Ran step_limit (seen c put left read_faults write_faults watches) outcome later → IsExpected outcome
 expected c put left read_faults write_faults watches outcome later e r = by_outcome c e r.log r.middle later outcome r.retiring.retires r.ends
 
-unwatched_by : (outcome : Outcome) (n : ℕ) (middle later : Seen) → IsExpected outcome → mach.Ends outcome n step_limit middle later → later.watches ≡ middle.watches
-unwatched_by Ended n middle later e ends = ap (λ (s : Seen). s.watches) ends.0
-unwatched_by ReadFault n middle later e ends = ap (λ (s : Seen). s.watches) ends.0.rest
-unwatched_by WriteFault n middle later e ends = ap (λ (s : Seen). s.watches) ends.0.rest
-unwatched_by (Raised at k) n middle later e ends = absurd e
-unwatched_by RoomUsed n middle later e ends = absurd e
-unwatched_by StepsUsed n middle later e ends = absurd e
-unwatched_by (Trap cause pc) n middle later e ends = absurd e
+unwatched_trap : (n steps : ℕ) (middle later : Seen) → ((later ≡ middle) × (n ≡ 0)) ⊎ (TrapsNow middle later × (n < steps)) → later.watches ≡ middle.watches
+unwatched_trap n steps middle later (inl still) = ap (λ (s : Seen). s.watches) still.0
+unwatched_trap n steps middle later (inr now) = ap (λ (s : Seen). s.watches) now.0.rest
+
+unwatched_by : (outcome : Outcome) (n steps : ℕ) (middle later : Seen) → mach.Ends outcome n steps middle later → later.watches ≡ middle.watches
+unwatched_by Ended n steps middle later ends = ap (λ (s : Seen). s.watches) ends.0
+unwatched_by ReadFault n steps middle later ends = ap (λ (s : Seen). s.watches) ends.0.rest
+unwatched_by WriteFault n steps middle later ends = ap (λ (s : Seen). s.watches) ends.0.rest
+unwatched_by (Raised at k) n steps middle later ends = ap (λ (s : Seen). s.watches) ends.0
+unwatched_by RoomUsed n steps middle later ends = ap (λ (s : Seen). s.watches) ends.0
+unwatched_by StepsUsed n steps middle later ends = ap (λ (s : Seen). s.watches) ends.0
+unwatched_by (Trap cause pc) n steps middle later ends = unwatched_trap n steps middle later ends.1
 
 -- a run without watchers is one without watchers to its end
-pub unwatched : (first last : Counted) (put left : Option (List ℕ)) (read_faults write_faults : ℕ) (outcome : Outcome) (put1 left1 : Option (List ℕ)) (read_faults1 write_faults1 : ℕ) (watches watches1 : List Watch)
-    → watches ≡ [] → IsExpected outcome
-    → Ran step_limit (seen first put left read_faults write_faults watches) outcome (seen last put1 left1 read_faults1 write_faults1 watches1)
-    → Ran step_limit (seen first put left read_faults write_faults []) outcome (seen last put1 left1 read_faults1 write_faults1 [])
-unwatched first last put left read_faults write_faults outcome put1 left1 read_faults1 write_faults1 watches watches1 none e r =
-    let same : watches1 ≡ [] = unwatched_by outcome (length r.log) r.middle _ e r.ends ∙ r.retiring.watches ∙ ap (map (λ w. after w (pcs r.log))) none in
-    let P : List Watch → Type 0 = λ ws. Ran step_limit (seen first put left read_faults write_faults []) outcome (seen last put1 left1 read_faults1 write_faults1 ws) in
-    let Q : List Watch → Type 0 = λ ws. Ran step_limit (seen first put left read_faults write_faults ws) outcome (seen last put1 left1 read_faults1 write_faults1 watches1) in
+pub unwatched : (steps : ℕ) (first last : Counted) (put left : Option (List ℕ)) (read_faults write_faults : ℕ) (outcome : Outcome) (put1 left1 : Option (List ℕ)) (read_faults1 write_faults1 : ℕ) (watches watches1 : List Watch)
+    → watches ≡ []
+    → Ran steps (seen first put left read_faults write_faults watches) outcome (seen last put1 left1 read_faults1 write_faults1 watches1)
+    → Ran steps (seen first put left read_faults write_faults []) outcome (seen last put1 left1 read_faults1 write_faults1 [])
+unwatched steps first last put left read_faults write_faults outcome put1 left1 read_faults1 write_faults1 watches watches1 none r =
+    let same : watches1 ≡ [] = unwatched_by outcome (length r.log) steps r.middle _ r.ends ∙ r.retiring.watches ∙ ap (map (λ w. after w (pcs r.log))) none in
+    let P : List Watch → Type 0 = λ ws. Ran steps (seen first put left read_faults write_faults []) outcome (seen last put1 left1 read_faults1 write_faults1 ws) in
+    let Q : List Watch → Type 0 = λ ws. Ran steps (seen first put left read_faults write_faults ws) outcome (seen last put1 left1 read_faults1 write_faults1 watches1) in
     subst P same (subst Q none r)
 
 -- nothing is seen of no watchers

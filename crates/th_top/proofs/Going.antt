@@ -5,7 +5,7 @@ use Rattle.th_core.specs.Tree.{ProgramModule}
 use Rattle.th_front.specs.Form.{Means}
 use Rattle.th_top.specs.declared.build.Product.{Product}
 use Rattle.th_top.specs.Outside.{Outside, Holds}
-use Rattle.th_top.specs.Answers.{Verdict, Done, BadFile, NotBuilt, NoMemory, StreamFailed, text_limit, Executed, Wrote, Went, Goes}
+use Rattle.th_top.specs.Answers.{Verdict, Done, BadFile, NotBuilt, BadElf, RunRaised, NoRoom, NoSteps, Trapped, NoMemory, StreamFailed, text_limit, Executed, Wrote, Went, Goes}
 use Rattle.th_top.specs.Built.{IsProductOf, IsProduct}
 
 -- the bytes that a read gives are those of the file
@@ -27,9 +27,14 @@ goes_by : (out file : List ℕ) (before later : Outside) (v : Verdict) (text : L
     → Wrote out tree before later v → Goes out file before later v
 goes_by out file before later Done text tree holds within means w = went out file before later Done text tree holds within means w
 goes_by out file before later StreamFailed text tree holds within means w = went out file before later StreamFailed text tree holds within means w
-goes_by out file before later (BadFile name) text tree holds within means w = (w.0, inr (inr w.1, w.2))
+goes_by out file before later (BadFile name) text tree holds within means w = inr (w.1, w.0, w.2)
 goes_by out file before later (NotBuilt name) text tree holds within means w = absurd w
 goes_by out file before later NoMemory text tree holds within means w = absurd w
+goes_by out file before later (BadElf name field) text tree holds within means w = absurd w
+goes_by out file before later (RunRaised name) text tree holds within means w = absurd w
+goes_by out file before later NoRoom text tree holds within means w = absurd w
+goes_by out file before later NoSteps text tree holds within means w = absurd w
+goes_by out file before later (Trapped cause pc) text tree holds within means w = absurd w
 
 pub goes : (out file : List ℕ) (before middle later : Outside) (v : Verdict) (text read : List ℕ) (p : Product) → Holds before.files file read → text ≡ read → length read ≤ text_limit
     → (is : IsProduct text p) → middle ≡ before → ((tree : ProgramModule) → IsProductOf tree p → Wrote out tree middle later v) → Goes out file before later v

@@ -6,3 +6,7 @@ pub mod Going
 pub mod Wrote
 pub mod Events
 pub mod Derived
+pub mod RaisedNames
+pub mod Running
+pub mod Ran
+pub mod Regions

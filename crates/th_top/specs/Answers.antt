@@ -1,22 +1,32 @@
 -- What a call of the program does: its status, its report, and what it does to files and streams.
-use Rattle.std.specs.Prelude.{◌≡◌, ℕ, ◌<◌, ◌≤◌, List, [], ◌∷◌, ◌++◌, length, Option, Some, None, option_map, codes, ◌⊎◌}
+use Rattle.std.specs.Prelude.{◌≡◌, ℕ, zero, suc, ◌+◌, ◌/◌, ◌%◌, cond, nat_lt, ◌<◌, ◌≤◌, List, [], ◌∷◌, ◌++◌, length, Option, Some, None, option_map, codes, ◌⊎◌}
 use Rattle.th_world.specs.Outside.{Rose, with_file}
 use Rattle.th_core.specs.Tree.{ProgramModule}
 use Rattle.th_front.specs.Form.{IsBuilt, Means}
 use Rattle.th_elf.specs.declared.image.Image.{Image}
 use Rattle.th_elf.specs.Written.{written}
+use Rattle.th_elf.specs.declared.error.Field.{Field}
+use Rattle.th_elf.specs.Named.{name_of}
+use Rattle.th_elf.specs.Loadable.{first_failing, segments_of}
+use Rattle.th_elf.specs.Run.{loaded}
+use Rattle.th_rv.specs.declared.instr.Cause.{Cause}
+use Rattle.th_rv.specs.declared.instr.Cause.TheVariants as cause
+use Rattle.th_rv.specs.Memory.{bytes_at}
 use Rattle.th_link.specs.Agrees.{Agrees, loaded_image}
 use Rattle.th_mach.specs.declared.answer.Outcome.{Outcome}
 use Rattle.th_mach.specs.declared.answer.Outcome.TheVariants.{Ended, Raised, RoomUsed, StepsUsed, Trap, ReadFault, WriteFault}
 use Rattle.th_mach.specs.Counted.{Counted, fresh}
 use Rattle.th_mach.specs.Ran.{seen, Ran}
-use Rattle.th_top.specs.Words.{IsGo, IsCommand}
+use Rattle.th_words.specs.Words.{Command, Go, Run, IsCommand, IsNoCommand}
 use Rattle.th_top.specs.Report.{Report, Reports}
 use Rattle.th_top.specs.Outside.{Outside, Untouched, Holds}
 
--- the most bytes of a text, the bytes of the region, and the most instructions of a run
+-- the most bytes of a text and of an executable, and for `go` the bytes of the region and the most instructions of a run
 abbrev pub text_limit : ℕ
 text_limit = 2097152
+
+abbrev pub file_limit : ℕ
+file_limit = 1073741824
 
 abbrev pub region_size : ℕ
 region_size = 1048576
@@ -24,12 +34,18 @@ region_size = 1048576
 abbrev pub step_limit : ℕ
 step_limit = 50000000
 
--- how a command ends: all was done, a file couldn't be read or written, a text isn't built, there was no memory, a
--- stream failed
+-- how a command ends: all was done, a file couldn't be read or written, a text isn't built, a file isn't loadable by
+-- the condition on a field, the run raised the exception of a name, it stopped for room, it used up its steps, it
+-- trapped, there was no memory, a stream failed
 pub data Verdict : Type 0 where
   Done : Verdict
   BadFile : (name : List ℕ) → Verdict
   NotBuilt : (name : List ℕ) → Verdict
+  BadElf : (name : List ℕ) → Field → Verdict
+  RunRaised : (name : List ℕ) → Verdict
+  NoRoom : Verdict
+  NoSteps : Verdict
+  Trapped : Cause → (pc : ℕ) → Verdict
   NoMemory : Verdict
   StreamFailed : Verdict
 
@@ -38,6 +54,11 @@ abbrev pub status_of : Verdict → ℕ
 status_of Done = 0
 status_of (BadFile name) = 2
 status_of (NotBuilt name) = 3
+status_of (BadElf name field) = 5
+status_of (RunRaised name) = 6
+status_of NoRoom = 7
+status_of NoSteps = 8
+status_of (Trapped cause pc) = 10
 status_of NoMemory = 9
 status_of StreamFailed = 11
 
@@ -45,18 +66,48 @@ status_of StreamFailed = 11
 abbrev pub line : List ℕ → List ℕ
 line text = text ++ 10 ∷ []
 
+-- the word for the cause of a trap
+abbrev pub cause_word : Cause → List ℕ
+cause_word cause.Fetch = codes "fetch"
+cause_word cause.Illegal = codes "illegal"
+cause_word cause.Jump = codes "jump"
+cause_word cause.Misaligned = codes "misaligned"
+cause_word cause.Load = codes "load"
+cause_word cause.Store = codes "store"
+cause_word cause.Ecall = codes "ecall"
+cause_word cause.Ebreak = codes "ebreak"
+
+-- the digit of a number below 16, in small letters
+abbrev pub hex_digit : ℕ → ℕ
+hex_digit d = cond (nat_lt d 10) (48 + d) (87 + d)
+
+-- the last k hexadecimal digits of a number
+abbrev pub hexadecimal : (k : ℕ) → ℕ → List ℕ
+hexadecimal zero n = []
+hexadecimal (suc k) n = hexadecimal k (n / 16) ++ hex_digit (n % 16) ∷ []
+
 -- what is reported of a verdict
 abbrev pub report_of : Verdict → List ℕ
 report_of Done = []
 report_of (BadFile name) = line (codes "file " ++ name)
 report_of (NotBuilt name) = name ++ line (codes ": not built")
+report_of (BadElf name field) = name ++ codes ": bad elf " ++ name_of field ++ 10 ∷ []
+report_of (RunRaised name) = line (codes "exception " ++ name)
+report_of NoRoom = line (codes "room")
+report_of NoSteps = line (codes "steps")
+report_of (Trapped cause pc) = codes "trap " ++ cause_word cause ++ codes " at " ++ line (hexadecimal 8 pc)
 report_of NoMemory = line (codes "memory")
 report_of StreamFailed = line (codes "stream")
 
--- the file can't be read: where the files are told it is absent or above the limit; a fault of the files is the other way
-abbrev pub CannotRead : Option (List ℕ → Option (List ℕ)) → (name : List ℕ) → Type 0
-CannotRead None name = ⊥
-CannotRead (Some files) name = (files name ≡ None) ⊎ ((text : List ℕ) × (files name ≡ Some text) × (text_limit < length text))
+-- where the files are told, the file is absent or above the limit
+abbrev pub CannotRead : (limit : ℕ) → Option (List ℕ → Option (List ℕ)) → (name : List ℕ) → Type 0
+CannotRead limit None name = ⊥
+CannotRead limit (Some files) name = (files name ≡ None) ⊎ ((bytes : List ℕ) × (files name ≡ Some bytes) × (limit < length bytes))
+
+-- a file wasn't read, and nothing was done: it can't be read, or the files failed
+abbrev pub Unread : (limit : ℕ) (file : List ℕ) (before later : Outside) → Type 0
+Unread limit file before later =
+    Untouched before later × ((CannotRead limit before.files file × (later.file_faults ≡ before.file_faults)) ⊎ Rose before.file_faults later.file_faults)
 
 -- what the outcome of a run tells: it ended, or a stream failed
 abbrev pub Tells : Outcome → Verdict → Type 0
@@ -91,6 +142,11 @@ Wrote out tree before later Done = Executed out tree before later Done
 Wrote out tree before later StreamFailed = Executed out tree before later StreamFailed
 Wrote out tree before later (BadFile name) = Untouched before later × (name ≡ out) × Rose before.file_faults later.file_faults
 Wrote out tree before later (NotBuilt name) = ⊥
+Wrote out tree before later (BadElf name field) = ⊥
+Wrote out tree before later (RunRaised name) = ⊥
+Wrote out tree before later NoRoom = ⊥
+Wrote out tree before later NoSteps = ⊥
+Wrote out tree before later (Trapped cause pc) = ⊥
 Wrote out tree before later NoMemory = ⊥
 
 -- the program of the module in the file was executed
@@ -112,13 +168,67 @@ Goes out file before later (NotBuilt name) =
     Untouched before later × (later.file_faults ≡ before.file_faults) × (name ≡ file)
     × ((text : List ℕ) × Holds before.files file text × (length text ≤ text_limit) × (IsBuilt text → ⊥))
 Goes out file before later (BadFile name) =
-    Untouched before later
-    × (((name ≡ file) × CannotRead before.files file × (later.file_faults ≡ before.file_faults))
-    ⊎ (((name ≡ file) ⊎ (name ≡ out)) × Rose before.file_faults later.file_faults))
+    ((name ≡ file) × Unread text_limit file before later)
+    ⊎ ((name ≡ out) × Untouched before later × Rose before.file_faults later.file_faults)
+Goes out file before later (BadElf name field) = ⊥
+Goes out file before later (RunRaised name) = ⊥
+Goes out file before later NoRoom = ⊥
+Goes out file before later NoSteps = ⊥
+Goes out file before later (Trapped cause pc) = ⊥
+
+-- what a run's outcome tells, with the machine after it
+abbrev pub TellsOf : Outcome → Counted → Verdict → Type 0
+TellsOf Ended last v = v ≡ Done
+TellsOf (Raised at length) last v = (name : List ℕ) × (bytes_at length last.machine.state.areas at ≡ Some name) × (v ≡ RunRaised name)
+TellsOf RoomUsed last v = v ≡ NoRoom
+TellsOf StepsUsed last v = v ≡ NoSteps
+TellsOf (Trap cause pc) last v = v ≡ Trapped cause pc
+TellsOf ReadFault last v = v ≡ StreamFailed
+TellsOf WriteFault last v = v ≡ StreamFailed
+
+-- the executable in the file was run, with a region of so many bytes and at most so many instructions
+pub record RunsFile (file : List ℕ) (region steps : ℕ) (before later : Outside) (verdict : Verdict) : Type 0 where
+  -- the file's bytes, which are loadable
+  pub bytes : List ℕ
+  pub holds : Holds before.files file bytes
+  pub within : length bytes ≤ file_limit
+  pub loadable : first_failing bytes ≡ None
+  -- no file was touched
+  pub files : later.files ≡ before.files
+  pub written_names : later.written ≡ before.written
+  pub file_faults : later.file_faults ≡ before.file_faults
+  -- the machine that was loaded from these bytes ran on the input and the output
+  pub last : Counted
+  pub outcome : Outcome
+  pub ran : Ran steps
+      (seen (fresh (loaded (segments_of bytes) region)) before.put before.left before.read_faults before.write_faults [])
+      outcome
+      (seen last later.put later.left later.read_faults later.write_faults [])
+  pub tells : TellsOf outcome last verdict
+
+-- how the command `run` goes, by its verdict
+abbrev pub Runs : (file : List ℕ) (region steps : ℕ) (before later : Outside) → Verdict → Type 0
+Runs file region steps before later Done = RunsFile file region steps before later Done
+Runs file region steps before later (RunRaised name) = RunsFile file region steps before later (RunRaised name)
+Runs file region steps before later NoRoom = RunsFile file region steps before later NoRoom
+Runs file region steps before later NoSteps = RunsFile file region steps before later NoSteps
+Runs file region steps before later (Trapped cause pc) = RunsFile file region steps before later (Trapped cause pc)
+Runs file region steps before later StreamFailed = RunsFile file region steps before later StreamFailed
+Runs file region steps before later NoMemory = Untouched before later × (later.file_faults ≡ before.file_faults)
+Runs file region steps before later (BadElf name field) =
+    Untouched before later × (later.file_faults ≡ before.file_faults) × (name ≡ file)
+    × ((bytes : List ℕ) × Holds before.files file bytes × (length bytes ≤ file_limit) × (first_failing bytes ≡ Some field))
+Runs file region steps before later (BadFile name) = (name ≡ file) × Unread file_limit file before later
+Runs file region steps before later (NotBuilt name) = ⊥
+
+-- how a command goes, by its verdict
+abbrev pub Does : Command → (before later : Outside) → Verdict → Type 0
+Does (Go out file) before later v = Goes out file before later v
+Does (Run file region steps) before later v = Runs file region steps before later v
 
 -- the words are no command, and the report says so
 pub record Refuses (words : List (List ℕ)) (before later : Outside) (report_before report_later : Report) (status : ℕ) : Type 0 where
-  pub no_command : IsCommand words → ⊥
+  pub no_command : IsNoCommand words
   pub answers : status ≡ 1
   pub untouched : Untouched before later
   pub file_faults : later.file_faults ≡ before.file_faults
@@ -126,11 +236,10 @@ pub record Refuses (words : List (List ℕ)) (before later : Outside) (report_be
 
 -- the words are a command, which went in one way
 pub record Obeys (words : List (List ℕ)) (before later : Outside) (report_before report_later : Report) (status : ℕ) : Type 0 where
-  pub out : List ℕ
-  pub file : List ℕ
-  pub is_go : IsGo words out file
+  pub command : Command
+  pub is_command : IsCommand words command
   pub verdict : Verdict
-  pub goes : Goes out file before later verdict
+  pub does : Does command before later verdict
   pub answers : status ≡ status_of verdict
   pub report : Reports (report_of verdict) report_before report_later
 

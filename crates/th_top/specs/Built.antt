@@ -1,5 +1,5 @@
 -- What is built of a text.
-use Rattle.std.specs.Prelude.{◌≡◌, ℕ, List, [], ◌∷◌}
+use Rattle.std.specs.Prelude.{◌≡◌, ℕ, ◌≤◌, List, [], ◌∷◌, Option, Some}
 use Rattle.th_core.specs.Tree.{ProgramModule}
 use Rattle.th_front.specs.Form.{Means}
 use Rattle.th_elf.specs.declared.image.Image.{Image}
@@ -11,7 +11,11 @@ use Rattle.th_mach.specs.Counted.{Counted, fresh}
 use Rattle.th_mach.specs.declared.answer.Outcome.{Outcome}
 use Rattle.th_mach.specs.declared.answer.Outcome.TheVariants.{Ended, Raised, RoomUsed, StepsUsed, Trap, ReadFault, WriteFault}
 use Rattle.th_top.specs.declared.build.Product.{Product}
-use Rattle.th_top.specs.Answers.{region_size}
+use Rattle.th_mach.specs.Ran.{seen, Ran}
+use Rattle.th_elf.specs.Lawful.{IsRegion}
+use Rattle.th_words.specs.Words.{Command, Go, Run}
+use Rattle.th_rv.specs.Memory.{Area, bytes_at}
+use Rattle.th_top.specs.Answers.{region_size, Verdict, TellsOf}
 
 -- the machine was loaded from the image's written form and retired nothing yet
 abbrev pub IsLoaded : Image → Counted → Type 0
@@ -49,3 +53,33 @@ IsExpected (Raised at length) = ⊥
 IsExpected RoomUsed = ⊥
 IsExpected StepsUsed = ⊥
 IsExpected (Trap cause pc) = ⊥
+
+-- the name of an exception is in memory: at most 129 bytes, all loadable
+pub record HasName (areas : List Area) (at n : ℕ) : Type 0 where
+  pub short : n ≤ 129
+  pub name : List ℕ
+  pub there : bytes_at n areas at ≡ Some name
+
+-- where the outcome is that an exception was raised, the machine has its name
+abbrev pub IsNamed : Counted → Outcome → Type 0
+IsNamed c (Raised at n) = HasName c.machine.state.areas at n
+IsNamed c Ended = Unit {0}
+IsNamed c RoomUsed = Unit {0}
+IsNamed c StepsUsed = Unit {0}
+IsNamed c (Trap cause pc) = Unit {0}
+IsNamed c ReadFault = Unit {0}
+IsNamed c WriteFault = Unit {0}
+
+-- a machine without watchers ran from `first`, with at most so many instructions, and its outcome tells the verdict;
+-- before and after it the streams told this: the bytes put, the bytes left, and the counts of faults
+pub record Executes (first : Counted) (steps : ℕ) (put left : Option (List ℕ)) (read_faults write_faults : ℕ)
+    (put_later left_later : Option (List ℕ)) (read_faults_later write_faults_later : ℕ) (verdict : Verdict) : Type 0 where
+  pub last : Counted
+  pub outcome : Outcome
+  pub ran : Ran steps (seen first put left read_faults write_faults []) outcome (seen last put_later left_later read_faults_later write_faults_later [])
+  pub tells : TellsOf outcome last verdict
+
+-- the region of a command that has one is lawful
+abbrev pub HasRegion : Command → Type 0
+HasRegion (Go out file) = Unit {0}
+HasRegion (Run file region steps) = IsRegion region

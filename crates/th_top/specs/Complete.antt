@@ -8,16 +8,21 @@ use Rattle.th_core.specs.Meaning.{source_run}
 use Rattle.th_front.specs.Form.{IsBuilt, Means}
 use Rattle.th_elf.specs.declared.image.Image.{Image}
 use Rattle.th_elf.specs.Written.{written}
+use Rattle.th_elf.specs.declared.error.Field.{Field}
+use Rattle.th_elf.specs.Loadable.{first_failing, segments_of}
+use Rattle.th_elf.specs.Run.{Status, Running, Stopped, Trapped, loaded, start, run, trace, no_names}
+use Rattle.th_elf.specs.Run.{Run as MachineRun}
+use Rattle.th_rv.specs.Step as halt
 use Rattle.th_link.specs.Agrees.{Agrees, AreBytes, image_run}
-use Rattle.th_top.specs.Words.{IsGo}
+use Rattle.th_words.specs.Words.{Go, Run, IsCommand}
 use Rattle.th_top.specs.Outside.{Outside}
-use Rattle.th_top.specs.Answers.{text_limit, region_size, step_limit}
+use Rattle.th_top.specs.Answers.{text_limit, file_limit, region_size, step_limit}
 
 -- the words are `go OUT FILE`, the files are told, and FILE is there with these bytes, within the limit
 pub record Given (words : List (List ℕ)) (before : Outside) (text : List ℕ) : Type 0 where
   pub out : List ℕ
   pub file : List ℕ
-  pub is_go : IsGo words out file
+  pub is_command : IsCommand words (Go out file)
   pub files : List ℕ → Option (List ℕ)
   pub told : before.files ≡ Some files
   pub there : files file ≡ Some text
@@ -49,7 +54,7 @@ pub record DidAsSource (words : List (List ℕ)) (before later : Outside) (text 
   pub agrees : Agrees image (tree ∷ [])
   pub out : List ℕ
   pub file : List ℕ
-  pub is_go : IsGo words out file
+  pub is_command : IsCommand words (Go out file)
   pub files : later.files ≡ option_map (with_file out (written image)) before.files
   -- after so many instructions the machine with that image ended, and the source with as many turns did too, with an
   -- equal trace
@@ -68,3 +73,46 @@ abbrev pub HeadlineFor : (words : List (List ℕ)) (before later : Outside) (sta
 HeadlineFor words before later status =
     (text input : List ℕ) → Given words before text → before.left ≡ Some input → AreBytes input → status ≡ 0
     → DidAsSource words before later text input
+
+-- the words are `run` of a file, the files are told, and the file is there with these bytes, within the limit
+pub record GivenRun (words : List (List ℕ)) (before : Outside) (bytes : List ℕ) (region steps : ℕ) : Type 0 where
+  pub file : List ℕ
+  pub is_command : IsCommand words (Run file region steps)
+  pub files : List ℕ → Option (List ℕ)
+  pub told : before.files ≡ Some files
+  pub there : files file ≡ Some bytes
+  pub within : length bytes ≤ file_limit
+
+-- the status of a run by how the machine stands after it
+abbrev pub IsStatusOf : Status → ℕ → Type 0
+IsStatusOf Running status = status ≡ 8
+IsStatusOf (Stopped halt.Ended) status = status ≡ 0
+IsStatusOf (Stopped (halt.Raised at length)) status = status ≡ 6
+IsStatusOf (Stopped halt.RoomUsed) status = status ≡ 7
+IsStatusOf (Trapped cause pc) status = status ≡ 10
+
+-- the file was run on this input as the definition of the machine has it
+pub record RanAsDefined (before later : Outside) (bytes input : List ℕ) (region steps status : ℕ) : Type 0 where
+  -- so many steps were done, all of them where the machine still runs
+  pub taken : ℕ
+  pub few : taken ≤ steps
+  pub all : status ≡ 8 → taken ≡ steps
+  -- the run of the loaded machine after them
+  pub after : MachineRun
+  pub is : run taken (start (loaded (segments_of bytes) region) input) ≡ after
+  pub stands : IsStatusOf after.status status
+  -- what it put was put, and what it left is left
+  pub put : later.put ≡ option_map (λ bs. bs ++ puts (trace no_names after.log)) before.put
+  pub left : later.left ≡ Some after.input
+
+-- a file that is loadable is run as the definition has it, or there was no memory
+abbrev pub RunCompleteFor : (words : List (List ℕ)) (before later : Outside) (status : ℕ) → Type 0
+RunCompleteFor words before later status =
+    (bytes input : List ℕ) (region steps : ℕ) → GivenRun words before bytes region steps → before.left ≡ Some input → NoFault before later
+    → first_failing bytes ≡ None → (status ≡ 9) ⊎ RanAsDefined before later bytes input region steps status
+
+-- a file that isn't loadable gives status 5, or 9 for want of memory
+abbrev pub RunRefusedFor : (words : List (List ℕ)) (before later : Outside) (status : ℕ) → Type 0
+RunRefusedFor words before later status =
+    (bytes : List ℕ) (region steps : ℕ) (field : Field) → GivenRun words before bytes region steps → NoFault before later
+    → first_failing bytes ≡ Some field → (status ≡ 5) ⊎ (status ≡ 9)

@@ -1,4 +1,3 @@
-pub mod Words
 pub mod Report
 pub mod Outside
 pub mod Answers

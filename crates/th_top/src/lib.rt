@@ -2,25 +2,55 @@
 #![tactic(auto)]
 
 ghost use Rattle.std.specs.Prelude.{◌≡◌, ◌↔◌, ℕ, map, string_bytes};
-ghost use Rattle.th_top.specs.Answers.{Answers};
-ghost use Rattle.th_top.specs.Complete.{CompleteFor, RefusedFor, HeadlineFor};
+ghost use Rattle.th_top.specs.Answers.{Answers, Does};
+ghost use Rattle.th_top.specs.Complete.{CompleteFor, RefusedFor, HeadlineFor, RunCompleteFor, RunRefusedFor};
 ghost use Rattle.th_top.specs.Outside.{outside};
 ghost use Rattle.th_top.specs.Report.{reported};
-ghost use Rattle.th_top.specs.Words.{IsCommand};
+ghost use Rattle.th_words.specs.Decoded.{command_of};
+ghost use Rattle.th_words.specs.Words.{IsNoCommand, IsAtMostOne};
+ghost use Rattle.th_top.specs.Built.{HasRegion};
+ghost use Rattle.th_top.specs.Verdict.{verdict_of};
 
 mod build;
 mod go;
 mod report;
-mod words;
+mod run;
+mod verdict;
 
 use go::go;
 use report::{say, say_verdict};
+use run::run;
 use std::alloc::Global;
+use th_words::{Command, command};
 use th_world::{Files, Sink, Source};
-use words::command;
+use verdict::Verdict;
 
 /// The status where the words are no command.
 const NO_COMMAND: u8 = 1;
+
+/// Carries a command out.
+fn carry_out<'a, F: Files, S: Source, K: Sink>(
+    alloc: Global,
+    command: Command<'a>,
+    files: &mut F,
+    input: &mut S,
+    output: &mut K,
+) -> Verdict<'a>
+    requires { HasRegion (command_of command) }
+    ensures { Does (command_of command.entry)
+        (outside (F.map files.old) (F.written files.old) (F.Files.faults files.old) (S.left input.old) (S.Source.faults input.old) (K.put_bytes output.old) (K.Sink.faults output.old))
+        (outside (F.map files.new) (F.written files.new) (F.Files.faults files.new) (S.left input.new) (S.Source.faults input.new) (K.put_bytes output.new) (K.Sink.faults output.new))
+        (verdict_of result) }
+{
+    match command {
+        Command::Go { out, file } => go(alloc, out, file, files, input, output),
+        Command::Run {
+            file,
+            region,
+            steps,
+        } => run(alloc, file, region, steps, files, input, output),
+    }
+}
 
 /// Does what the words say and answers the status.
 fn obey<F: Files, S: Source, K: Sink, E: Sink>(
@@ -31,17 +61,20 @@ fn obey<F: Files, S: Source, K: Sink, E: Sink>(
     output: &mut K,
     report: &mut E,
 ) -> u8
-    ensures { Answers (map string_bytes words.now)
+    ensures answers { Answers (map string_bytes words.now)
         (outside (F.map files.old) (F.written files.old) (F.Files.faults files.old) (S.left input.old) (S.Source.faults input.old) (K.put_bytes output.old) (K.Sink.faults output.old))
         (outside (F.map files.new) (F.written files.new) (F.Files.faults files.new) (S.left input.new) (S.Source.faults input.new) (K.put_bytes output.new) (K.Sink.faults output.new))
         (reported (E.put_bytes report.old) (E.Sink.faults report.old)) (reported (E.put_bytes report.new) (E.Sink.faults report.new)) result }
+
+    // Words are never two commands.
+    ensures only { IsAtMostOne (map string_bytes words.now) }
 {
     let Some(command) = command(words) else {
         let _ = say(report, b"words\n");
         return NO_COMMAND;
     };
-    let verdict = go(alloc, command, files, input, output);
-    let _ = say_verdict(report, verdict);
+    let verdict = carry_out(alloc, command, files, input, output);
+    let _ = say_verdict(report, &verdict);
     verdict.status()
 }
 
@@ -62,7 +95,7 @@ pub fn theta<F: Files, S: Source, K: Sink, E: Sink>(
         (reported (E.put_bytes report.old) (E.Sink.faults report.old)) (reported (E.put_bytes report.new) (E.Sink.faults report.new)) result }
 
     // Status 1 comes exactly where the words are no command.
-    ensures command { (result ≡ 1) ↔ (IsCommand (map string_bytes words.now) → ⊥) }
+    ensures command { (result ≡ 1) ↔ IsNoCommand (map string_bytes words.now) }
 
     // A text that is built gives 0, or 9 for want of memory, where no count of faults rises.
     ensures complete { CompleteFor (map string_bytes words.now)
@@ -76,6 +109,16 @@ pub fn theta<F: Files, S: Source, K: Sink, E: Sink>(
 
     // Status 0 says that the executable at OUT did what the source does.
     ensures headline { HeadlineFor (map string_bytes words.now)
+        (outside (F.map files.old) (F.written files.old) (F.Files.faults files.old) (S.left input.old) (S.Source.faults input.old) (K.put_bytes output.old) (K.Sink.faults output.old))
+        (outside (F.map files.new) (F.written files.new) (F.Files.faults files.new) (S.left input.new) (S.Source.faults input.new) (K.put_bytes output.new) (K.Sink.faults output.new)) result }
+
+    // A loadable file is run as the definition of the machine has it, or there is no memory.
+    ensures run_complete { RunCompleteFor (map string_bytes words.now)
+        (outside (F.map files.old) (F.written files.old) (F.Files.faults files.old) (S.left input.old) (S.Source.faults input.old) (K.put_bytes output.old) (K.Sink.faults output.old))
+        (outside (F.map files.new) (F.written files.new) (F.Files.faults files.new) (S.left input.new) (S.Source.faults input.new) (K.put_bytes output.new) (K.Sink.faults output.new)) result }
+
+    // A file that isn't loadable gives 5, or 9 for want of memory.
+    ensures run_refused { RunRefusedFor (map string_bytes words.now)
         (outside (F.map files.old) (F.written files.old) (F.Files.faults files.old) (S.left input.old) (S.Source.faults input.old) (K.put_bytes output.old) (K.Sink.faults output.old))
         (outside (F.map files.new) (F.written files.new) (F.Files.faults files.new) (S.left input.new) (S.Source.faults input.new) (K.put_bytes output.new) (K.Sink.faults output.new)) result }
 {
