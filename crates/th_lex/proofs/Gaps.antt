@@ -98,7 +98,7 @@ same_gap text u v m n g h = by (view g) (view h) where
   by (inr b) (inl c) = absurd (not_both text v u n m c b)
   by (inr b) (inr c) = same_comment text u v m n b c
 
-digit_no_letter : (b : ℕ) → is_digit b ≡ true → is_letter b ≡ false
+pub digit_no_letter : (b : ℕ) → is_digit b ≡ true → is_letter b ≡ false
 digit_no_letter b d =
     let l : b ≤ 57 = leb-true b 57 (and_right (nat_le 48 b) (nat_le b 57) d) in
     let u : nat_le 65 b ≡ false = lt-leb 65 b (omega arith) in

@@ -13,7 +13,7 @@ gap_drop : {more text : List ℕ} {n : ℕ} → Gap more text n → more ≡ dro
 gap_drop (blank b e) = refl
 gap_drop {more = more} (comment cs e f) = drop_here (35 ∷ (cs ++ more)) (35 ∷ cs) more (1 + length cs) refl (omega arith)
 
-onward : (at n : ℕ) (text part more : List ℕ) → part ≡ drop at text → more ≡ drop n part → more ≡ drop (at + n) text
+pub onward : (at n : ℕ) (text part more : List ℕ) → part ≡ drop at text → more ≡ drop n part → more ≡ drop (at + n) text
 onward at n text part more e h = h ∙ ap (drop n) e ∙ drop-drop n at text
 
 first_kind : (at : ℕ) (text part bs more : List ℕ) (k : TokenKind) (t : Token) → part ≡ drop at text → part ≡ bs ++ more → kind_of bs ≡ Some k

@@ -8,3 +8,7 @@ pub mod Gaps
 pub mod Unique
 pub mod Steps
 pub mod Held
+pub mod Joined
+pub mod Alone
+pub mod Numerals
+pub mod Again

@@ -35,7 +35,7 @@ pub chosen_some : (v : Bool) (k j : TokenKind) → (if v then Some k else None) 
 chosen_some true k j e = (refl, cc)
 chosen_some false k j e = absurd (cc)
 
-letter_kind : (b : ℕ) (ds : List ℕ) (j : TokenKind) → is_letter b ≡ true → kind_of (b ∷ ds) ≡ Some j → all is_inner ds ≡ true
+pub letter_kind : (b : ℕ) (ds : List ℕ) (j : TokenKind) → is_letter b ≡ true → kind_of (b ∷ ds) ≡ Some j → all is_inner ds ≡ true
 letter_kind b ds j l h = let e : (if all is_inner ds then Some (word_kind (reserved_of (b ∷ ds))) else None) ≡ Some j = rw l at h in (chosen_some _ _ j e).0
 
 word_follows : (o : Option _) (more : List ℕ) → MayFollow (word_kind o) more
@@ -76,7 +76,7 @@ word_stands (b ∷ bs) n s l e =
     let t : b ∷ front is_inner bs ≡ take n (b ∷ bs) = take_here (b ∷ bs) (b ∷ front is_inner bs) (back is_inner bs) n w.token.split len in
     longest_here (b ∷ bs) (b ∷ front is_inner bs) (back is_inner bs) n _ len (subst (λ q. Longest (b ∷ bs) (b ∷ front is_inner bs) (back is_inner bs) (word_kind (reserved_of q))) t w)
 
-digit_kind : (b : ℕ) (ds : List ℕ) (j : TokenKind) → is_letter b ≡ false → is_digit b ≡ true → kind_of (b ∷ ds) ≡ Some j
+pub digit_kind : (b : ℕ) (ds : List ℕ) (j : TokenKind) → is_letter b ≡ false → is_digit b ≡ true → kind_of (b ∷ ds) ≡ Some j
     → ((all is_digit ds && nat_le (value 0 (b ∷ ds)) 2147483647) ≡ true) × (Number (value 0 (b ∷ ds)) ≡ j)
 digit_kind b ds j l d h =
     let e : (if all is_digit ds && nat_le (value 0 (b ∷ ds)) 2147483647 then Some (Number (value 0 (b ∷ ds))) else None) ≡ Some j = rw (l, d) at h in

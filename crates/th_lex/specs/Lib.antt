@@ -1,3 +1,4 @@
 pub mod ByLength
 pub mod Stands
 pub mod Answer
+pub mod Canonical

@@ -1,4 +1,4 @@
-//! Cutting a text into tokens.
+//! Cutting a text into tokens, and the canonical text of tokens.
 #![tactic(auto)]
 
 ghost use Rattle.std.specs.Prelude.{◌≡◌, ◌≤◌, ℕ, List, IfOk, IfSome, Some, length, slice_get};
@@ -8,11 +8,13 @@ ghost use Rattle.th_tree.specs.declared.tokens.Token.{Token};
 ghost use Rattle.th_tree.specs.Cut.{Cut, HasVerdict, Verdict};
 ghost use Rattle.th_lex.specs.Answer.{verdict_of};
 
+mod canonical;
 mod classes;
 mod front;
 mod symbols;
 mod words;
 
+pub use canonical::spell;
 use front::{Item, first_item};
 use std::alloc::Global;
 use th_tree::{Token, Tokens};

@@ -1,7 +1,9 @@
 //! Tokens, and the tokens of a text.
-ghost use Rattle.std.specs.Prelude.{◌≡◌, ◌<◌, ℕ, length, slice_get, option_copied};
+ghost use Rattle.std.specs.Prelude.{◌≡◌, ◌<◌, ℕ, length, slice_get, option_copied, IfOk, IsSomeAnd};
+ghost use Rattle.th_tree.specs.Literal as literal;
 ghost use Rattle.th_tree.specs.Spans.{InOrder, bytes_of};
 
+use std::alloc::{AllocError, Global};
 use std::marker::Model;
 
 /// A reserved word. Each variant is named by the word, and has its spelling beside it.
@@ -264,4 +266,42 @@ impl<'a> Tokens<'a> {
         let token = self.tokens[k];
         &self.bytes[token.start as usize..token.end as usize]
     }
+
+    /// The bytes that the string literal at place `k` means: those between its quotes, where a
+    /// backslash and the byte after it stand for one byte. LANGUAGE.md, "Tokens", states which.
+    pub fn value(&self, alloc: Global, k: usize) -> Result<Vec<u8>, AllocError>
+        requires { IsSomeAnd (slice_get self.now.list k) (λ token. token.kind ≡ TokenKind.Text) }
+        ensures { IfOk result (λ value. (token : Token) → slice_get self.now.list k ≡ Some token → value.items ≡ literal.literal_value (bytes_of self.now.text token)) }
+    {
+        match self.slice(k) {
+            [_, inner @ .., _] => unescaped(alloc, inner),
+            _ => Ok(Vec::new(alloc)),
+        }
+    }
+}
+
+/// The bytes with each backslash and the byte after it replaced by the byte that they stand for.
+fn unescaped(alloc: Global, bytes: &[u8]) -> Result<Vec<u8>, AllocError>
+    ensures { IfOk result (λ value. value.items ≡ literal.unescaped bytes.now) }
+{
+    let mut value = Vec::new(alloc);
+    let mut after_backslash = false;
+    for byte in bytes {
+        if after_backslash {
+            value.push(escaped_byte(*byte))?;
+            after_backslash = false;
+        } else if *byte == b'\\' {
+            after_backslash = true;
+        } else {
+            value.push(*byte)?;
+        }
+    }
+    Ok(value)
+}
+
+/// The byte that a backslash and this byte stand for.
+fn escaped_byte(byte: u8) -> u8
+    ensures { result ≡ literal.escaped_byte byte }
+{
+    if byte == b'n' { b'\n' } else { byte }
 }
