@@ -107,3 +107,24 @@ fn changed_segments(rt: HostRuntime) -> Result<(), Fail> {
     }
     Ok(())
 }
+
+#[test]
+fn texts(rt: HostRuntime) -> Result<(), Fail> {
+    for (field, text) in [
+        (Field::Length, "bad elf length"),
+        (Field::Magic, "bad elf magic"),
+        (Field::Class, "bad elf class"),
+        (Field::Order, "bad elf order"),
+        (Field::Version, "bad elf version"),
+        (Field::Kind, "bad elf kind"),
+        (Field::Machine, "bad elf machine"),
+        (Field::Flags, "bad elf flags"),
+        (Field::Entries, "bad elf entries"),
+        (Field::Segment, "bad elf segment"),
+    ] {
+        let error = ElfError::BadElf(field);
+        let shown = format!(in rt.alloc(); "{error}")?;
+        assert_eq!(rt; shown.as_str(), text);
+    }
+    Ok(())
+}

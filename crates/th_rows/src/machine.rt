@@ -10,15 +10,14 @@ use th_rv::Cause;
 use th_watch::{SpanCounter, Watcher, detach};
 use th_world::{MemSink, MemSource};
 
-/// `addi a7, zero, 2`, `ecall`, `addi a7, zero, 1`, `ecall`, `addi a7, zero, 3`, `ecall`: takes
-/// a byte, puts it and ends.
+/// A program that takes a byte, puts it and ends.
 const ECHO: [u32; 6] = [
-    0x0020_0893,
-    0x0000_0073,
-    0x0010_0893,
-    0x0000_0073,
-    0x0030_0893,
-    0x0000_0073,
+    0x0020_0893, // addi a7, zero, 2
+    0x0000_0073, // ecall
+    0x0010_0893, // addi a7, zero, 1
+    0x0000_0073, // ecall
+    0x0030_0893, // addi a7, zero, 3
+    0x0000_0073, // ecall
 ];
 
 /// A machine loaded from the written form of a program, with a region of 4096 bytes.
@@ -97,175 +96,118 @@ fn names(rt: HostRuntime) -> Result<(), Fail> {
     Ok(())
 }
 
+/// What gives a0 and a1, by `lui` and `addi` each, the values 7 and 0, -2^31 and -1, -2^31 and 0,
+/// -7 and 2.
+const OPERANDS: [[u32; 4]; 4] = [
+    [0x0000_0537, 0x0075_0513, 0x0000_05b7, 0x0005_8593],
+    [0x8000_0537, 0x0005_0513, 0x0000_05b7, 0xfff5_8593],
+    [0x8000_0537, 0x0005_0513, 0x0000_05b7, 0x0005_8593],
+    [0x0000_0537, 0xff95_0513, 0x0000_05b7, 0x0025_8593],
+];
+
 #[test]
-fn registers(rt: HostRuntime) -> Result<(), Fail> {
-    let ops = [
-        0x00b5_0633,
-        0x40b5_0633,
-        0x00b5_1633,
-        0x00b5_2633,
-        0x00b5_3633,
-        0x00b5_4633,
-        0x00b5_5633,
-        0x40b5_5633,
-        0x00b5_6633,
-        0x00b5_7633,
-        0x02b5_0633,
-        0x02b5_1633,
-        0x02b5_2633,
-        0x02b5_3633,
-        0x02b5_4633,
-        0x02b5_5633,
-        0x02b5_6633,
-        0x02b5_7633,
-    ];
-    for ([a, b, c, d], results) in [
+fn operations(rt: HostRuntime) -> Result<(), Fail> {
+    for (name, op, results) in [
         (
-            [0x0000_0537, 0x0075_0513, 0x0000_05b7, 0x0005_8593],
-            [
-                7,
-                7,
-                7,
-                0,
-                0,
-                7,
-                7,
-                7,
-                7,
-                0,
-                0,
-                0,
-                0,
-                0,
-                0xffff_ffff,
-                0xffff_ffff,
-                7,
-                7,
-            ],
+            "add",
+            0x00b5_0633,
+            [7, 0x7fff_ffff, 0x8000_0000, 0xffff_fffb],
         ),
         (
-            [0x8000_0537, 0x0005_0513, 0x0000_05b7, 0xfff5_8593],
-            [
-                0x7fff_ffff,
-                0x8000_0001,
-                0,
-                1,
-                1,
-                0x7fff_ffff,
-                1,
-                0xffff_ffff,
-                0xffff_ffff,
-                0x8000_0000,
-                0x8000_0000,
-                0,
-                0x8000_0000,
-                0x7fff_ffff,
-                0x8000_0000,
-                0,
-                0,
-                0x8000_0000,
-            ],
+            "sub",
+            0x40b5_0633,
+            [7, 0x8000_0001, 0x8000_0000, 0xffff_fff7],
+        ),
+        ("sll", 0x00b5_1633, [7, 0, 0x8000_0000, 0xffff_ffe4]),
+        ("slt", 0x00b5_2633, [0, 1, 1, 1]),
+        ("sltu", 0x00b5_3633, [0, 1, 0, 0]),
+        (
+            "xor",
+            0x00b5_4633,
+            [7, 0x7fff_ffff, 0x8000_0000, 0xffff_fffb],
+        ),
+        ("srl", 0x00b5_5633, [7, 1, 0x8000_0000, 0x3fff_fffe]),
+        (
+            "sra",
+            0x40b5_5633,
+            [7, 0xffff_ffff, 0x8000_0000, 0xffff_fffe],
         ),
         (
-            [0x8000_0537, 0x0005_0513, 0x0000_05b7, 0x0005_8593],
-            [
-                0x8000_0000,
-                0x8000_0000,
-                0x8000_0000,
-                1,
-                0,
-                0x8000_0000,
-                0x8000_0000,
-                0x8000_0000,
-                0x8000_0000,
-                0,
-                0,
-                0,
-                0,
-                0,
-                0xffff_ffff,
-                0xffff_ffff,
-                0x8000_0000,
-                0x8000_0000,
-            ],
+            "or",
+            0x00b5_6633,
+            [7, 0xffff_ffff, 0x8000_0000, 0xffff_fffb],
+        ),
+        ("and", 0x00b5_7633, [0, 0x8000_0000, 0, 0]),
+        ("mul", 0x02b5_0633, [0, 0x8000_0000, 0, 0xffff_fff2]),
+        ("mulh", 0x02b5_1633, [0, 0, 0, 0xffff_ffff]),
+        ("mulhsu", 0x02b5_2633, [0, 0x8000_0000, 0, 0xffff_ffff]),
+        ("mulhu", 0x02b5_3633, [0, 0x7fff_ffff, 0, 1]),
+        (
+            "div",
+            0x02b5_4633,
+            [0xffff_ffff, 0x8000_0000, 0xffff_ffff, 0xffff_fffd],
         ),
         (
-            [0x0000_0537, 0xff95_0513, 0x0000_05b7, 0x0025_8593],
-            [
-                0xffff_fffb,
-                0xffff_fff7,
-                0xffff_ffe4,
-                1,
-                0,
-                0xffff_fffb,
-                0x3fff_fffe,
-                0xffff_fffe,
-                0xffff_fffb,
-                0,
-                0xffff_fff2,
-                0xffff_ffff,
-                0xffff_ffff,
-                1,
-                0xffff_fffd,
-                0x7fff_fffc,
-                0xffff_ffff,
-                1,
-            ],
+            "divu",
+            0x02b5_5633,
+            [0xffff_ffff, 0, 0xffff_ffff, 0x7fff_fffc],
         ),
+        ("rem", 0x02b5_6633, [7, 0, 0x8000_0000, 0xffff_ffff]),
+        ("remu", 0x02b5_7633, [7, 0x8000_0000, 0x8000_0000, 1]),
     ] {
-        for (op, result) in ops.into_iter().zip(results) {
+        for ([a, b, c, d], result) in OPERANDS.into_iter().zip(results) {
             let mut machine = machine_of(&rt, rt.alloc(), &[a, b, c, d, op])?;
             run(rt.alloc(), &mut machine, 5, &[], &[])?;
-            assert_eq!(rt; machine.register(12), result, "{op:x}");
+            assert_eq!(rt; machine.register(12), result, "{name}");
         }
     }
     Ok(())
 }
 
-/// The words of the program in README.md, "The program of instructions".
+/// A program of loads, stores, operations, jumps and branches, whose results stay in registers.
 const INSTRUCTIONS: [u32; 42] = [
-    0x8000_02b7,
-    0x0812_8293,
-    0x0055_2023,
-    0x0005_0303,
-    0x0005_4383,
-    0x0025_1403,
-    0x0025_5483,
-    0x0055_1323,
-    0x0055_02a3,
-    0x0045_2603,
-    0x4042_d693,
-    0x0042_d713,
-    0x0042_9793,
-    0x0002_a813,
-    0x0002_b893,
-    0xfff2_c913,
-    0x0702_e993,
-    0x0f02_fa13,
-    0x4050_0ab3,
-    0x0050_3b33,
-    0x0050_2bb3,
-    0x0000_1c17,
-    0x0080_0cef,
-    0x0050_0013,
-    0x00dc_8d13,
-    0x000d_0de7,
-    0x0010_0e13,
-    0x0ff0_000f,
-    0x0020_0e93,
-    0x01d2_e663,
-    0x01d2_d463,
-    0x01d2_c463,
-    0x0010_0073,
-    0x01d2_f463,
-    0x0010_0073,
-    0xffd2_8ae3,
-    0x01d2_9463,
-    0x0010_0073,
-    0x0030_0f13,
-    0x41e2_dfb3,
-    0x0030_0893,
-    0x0000_0073,
+    0x8000_02b7, // lui t0, 0x80000
+    0x0812_8293, // addi t0, t0, 0x81
+    0x0055_2023, // sw t0, 0(a0)
+    0x0005_0303, // lb t1, 0(a0)
+    0x0005_4383, // lbu t2, 0(a0)
+    0x0025_1403, // lh s0, 2(a0)
+    0x0025_5483, // lhu s1, 2(a0)
+    0x0055_1323, // sh t0, 6(a0)
+    0x0055_02a3, // sb t0, 5(a0)
+    0x0045_2603, // lw a2, 4(a0)
+    0x4042_d693, // srai a3, t0, 4
+    0x0042_d713, // srli a4, t0, 4
+    0x0042_9793, // slli a5, t0, 4
+    0x0002_a813, // slti a6, t0, 0
+    0x0002_b893, // sltiu a7, t0, 0
+    0xfff2_c913, // xori s2, t0, -1
+    0x0702_e993, // ori s3, t0, 0x70
+    0x0f02_fa13, // andi s4, t0, 0xf0
+    0x4050_0ab3, // sub s5, zero, t0
+    0x0050_3b33, // sltu s6, zero, t0
+    0x0050_2bb3, // slt s7, zero, t0
+    0x0000_1c17, // auipc s8, 1
+    0x0080_0cef, // jal s9, 1f
+    0x0050_0013, // addi zero, zero, 5
+    0x00dc_8d13, // 1: addi s10, s9, 13
+    0x000d_0de7, // jalr s11, s10, 0
+    0x0010_0e13, // addi t3, zero, 1
+    0x0ff0_000f, // fence
+    0x0020_0e93, // addi t4, zero, 2
+    0x01d2_e663, // bltu t0, t4, 2f
+    0x01d2_d463, // bge t0, t4, 2f
+    0x01d2_c463, // blt t0, t4, 3f
+    0x0010_0073, // 2: ebreak
+    0x01d2_f463, // 3: bgeu t0, t4, 4f
+    0x0010_0073, // ebreak
+    0xffd2_8ae3, // 4: beq t0, t4, 2b
+    0x01d2_9463, // bne t0, t4, 5f
+    0x0010_0073, // ebreak
+    0x0030_0f13, // 5: addi t5, zero, 3
+    0x41e2_dfb3, // sra t6, t0, t5
+    0x0030_0893, // addi a7, zero, 3
+    0x0000_0073, // ecall
 ];
 
 #[test]
@@ -403,15 +345,10 @@ fn further_calls(rt: HostRuntime) -> Result<(), Fail> {
 fn streams(rt: HostRuntime) -> Result<(), Fail> {
     for (input, bytes) in [(b"".as_slice(), [0xff]), (b"AB".as_slice(), [0x41])] {
         let mut echo = machine_of(&rt, rt.alloc(), &ECHO)?;
-        for (fail, outcome, retired) in [
-            ([0].as_slice(), Outcome::ReadFault, 1),
-            ([0].as_slice(), Outcome::ReadFault, 1),
-        ] {
-            let (answer, put) = run(rt.alloc(), &mut echo, 9, input, fail)?;
-            assert_eq!(rt; answer, outcome);
-            assert_eq!(rt; echo.retired(), retired);
-            assert_eq!(rt; put.len(), 0);
-        }
+        let (answer, put) = run(rt.alloc(), &mut echo, 9, input, &[0])?;
+        assert_eq!(rt; answer, Outcome::ReadFault);
+        assert_eq!(rt; echo.retired(), 1);
+        assert_eq!(rt; put.len(), 0);
         let (answer, put) = run(rt.alloc(), &mut echo, 9, input, &[])?;
         assert_eq!(rt; answer, Outcome::Ended);
         assert_eq!(rt; put.as_slice(), bytes.as_slice());

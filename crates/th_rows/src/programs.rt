@@ -4,7 +4,8 @@ ghost use Rattle.std.specs.Prelude.{◌≡◌, length, IfOk};
 use std::alloc::{AllocError, Global};
 use std::test::Fail;
 use th_core::{
-    CoreBody, CoreExpr, CoreModule, CoreProgram, CoreStmt, CoreUnit, End, InterpretError, interpret,
+    CoreBody, CoreExpr, CoreModule, CoreProgram, CoreStmt, CoreUnit, End, InterpretError, depth,
+    interpret, locals, nodes,
 };
 use th_tree::Name;
 use th_world::{MemSink, MemSource};
@@ -41,17 +42,21 @@ fn program(
 #[test]
 fn fitting_modules(rt: HostRuntime) -> Result<(), Fail> {
     for (first, second, fits) in [
-        (("b", "b/main", 72), ("a", "a/f", 0x7fff_ffff), true),
-        (("b", "b/main", 72), ("a", "a/f", 0x8000_0000), false),
-        (("b", "b/main", 72), ("b", "b/f", 72), false),
-        (("b", "b/main", 72), ("a", "a/main", 72), false),
-        (("b", "b/g", 72), ("a", "a/f", 72), false),
-        (("b", "b/main", 72), ("a", "a/1", 72), false),
-        (("b", "b/main", 72), ("a", "a/end", 72), false),
-        (("b", "b/main", 72), ("a", "b/f", 72), false),
-        (("b", "b/main", 72), ("a", "f", 72), false),
-        (("b", "b/main", 72), ("if", "if/f", 72), false),
-        (("b", "b/main", 72), ("", "/f", 72), false),
+        (("hello", "hello/main", 72), ("a", "a/f", 0x7fff_ffff), true),
+        (
+            ("hello", "hello/main", 72),
+            ("a", "a/f", 0x8000_0000),
+            false,
+        ),
+        (("hello", "hello/main", 72), ("hello", "hello/f", 72), false),
+        (("hello", "hello/main", 72), ("a", "a/main", 72), false),
+        (("hello", "hello/g", 72), ("a", "a/f", 72), false),
+        (("hello", "hello/main", 72), ("a", "a/1", 72), false),
+        (("hello", "hello/main", 72), ("a", "a/end", 72), false),
+        (("hello", "hello/main", 72), ("a", "hello/f", 72), false),
+        (("hello", "hello/main", 72), ("a", "f", 72), false),
+        (("hello", "hello/main", 72), ("if", "if/f", 72), false),
+        (("hello", "hello/main", 72), ("", "/f", 72), false),
     ] {
         let found = program(rt.alloc(), first, second)?;
         assert_eq!(rt; found.is_some(), fits, "{first:?} and {second:?}");
@@ -61,17 +66,27 @@ fn fitting_modules(rt: HostRuntime) -> Result<(), Fail> {
 
 #[test]
 fn units(rt: HostRuntime) -> Result<(), Fail> {
-    let program = program(rt.alloc(), ("b", "b/main", 72), ("a", "a/f", 73))?.expect(
+    let program = program(rt.alloc(), ("hello", "hello/main", 72), ("a", "a/f", 73))?.expect(
         &rt,
         "a program",
     );
     for (k, name) in [
         (0, Some(b"a/f".as_slice())),
-        (1, Some(b"b/main".as_slice())),
+        (1, Some(b"hello/main".as_slice())),
         (2, None),
     ] {
         assert_eq!(rt; program.unit(k), name, "at {k}");
     }
+    Ok(())
+}
+
+#[test]
+fn counts(rt: HostRuntime) -> Result<(), Fail> {
+    let module = module(rt.alloc(), "a", "a/f", 72)?;
+    let unit = module.units.as_slice().first().expect(&rt, "a unit");
+    assert_eq!(rt; nodes(unit), 3);
+    assert_eq!(rt; locals(unit), 0);
+    assert_eq!(rt; depth(unit), 1);
     Ok(())
 }
 
@@ -96,7 +111,7 @@ fn runs(rt: HostRuntime) -> Result<(), Fail> {
         (255, None, "ended", b"\xff".as_slice(), [1].as_slice()),
         (256, None, "raised bounds", b"".as_slice(), [1].as_slice()),
     ] {
-        let program = program(alloc, ("b", "b/main", byte), ("a", "a/f", 73))?.expect(
+        let program = program(alloc, ("hello", "hello/main", byte), ("a", "a/f", 73))?.expect(
             &rt,
             "a program",
         );
@@ -113,7 +128,10 @@ fn runs(rt: HostRuntime) -> Result<(), Fail> {
 #[test]
 fn failing_sink(rt: HostRuntime) -> Result<(), Fail> {
     let alloc = rt.alloc();
-    let program = program(alloc, ("b", "b/main", 72), ("a", "a/f", 73))?.expect(&rt, "a program");
+    let program = program(alloc, ("hello", "hello/main", 72), ("a", "a/f", 73))?.expect(
+        &rt,
+        "a program",
+    );
     let mut source = MemSource::new(Vec::new(alloc), Vec::new(alloc));
     let mut sink = MemSink::new(alloc, 0, Vec::new(alloc))?;
     let answer = interpret(alloc, &program, &mut source, &mut sink, 0, None);
