@@ -1,19 +1,11 @@
 //! The top call over files and streams in memory, against docs/LANGUAGE.md, by hand.
 
 use crate::samples::GREETING;
-use std::alloc::Global;
+use std::alloc::{AllocError, Global};
+use std::process::Abort;
 use std::test::Fail;
 use th_top::theta;
 use th_world::{MemFiles, MemSink, MemSource};
-
-/// What a call left: its status, its files, its output and its report.
-#[derive(Drop)]
-struct Left {
-    status: u8,
-    files: MemFiles,
-    output: MemSink,
-    report: MemSink,
-}
 
 /// The files and streams of a call: the text of `m.tm`, how many writes there is room for, and the
 /// numbers of the calls that fail of the output and of the report.
@@ -35,8 +27,17 @@ fn nothing_fails(text: &[u8]) -> Given<'_> {
     }
 }
 
-/// The top call with these words.
-fn call(alloc: Global, words: &[&str], given: &Given<'_>) -> Result<Left, Fail> {
+/// The answer of a call: its status, the output, the report and how many files were written.
+type Answer<'a> = (u8, &'a [u8], &'a [u8], u32);
+
+/// The top call with these words has this answer. It gives the files that the call left.
+fn answers(
+    rt: &impl Abort,
+    alloc: Global,
+    words: &[&str],
+    given: &Given<'_>,
+    answer: Answer<'_>,
+) -> Result<MemFiles, Fail> {
     let mut list = Vec::new(alloc);
     for word in words {
         list.push(word.to_string(alloc)?)?;
@@ -54,162 +55,144 @@ fn call(alloc: Global, words: &[&str], given: &Given<'_>) -> Result<Left, Fail> 
         &mut output,
         &mut report,
     );
-    Ok(Left {
-        status,
-        files,
-        output,
-        report,
-    })
+    let found = (status, output.bytes(), report.bytes(), files.written());
+    assert_eq!(rt; found, answer);
+    Ok(files)
 }
 
 const COMMAND: [&str; 3] = ["go", "out", "m.tm"];
 
+const NOT_BUILT: Answer<'static> = (3, b"", b"m.tm: not built\n", 0);
+
+/// Texts of `m.tm`, and the answers of `go out m.tm`.
+const TEXTS: [(&[u8], Answer<'static>); 10] = [
+    (b"module m; routine main() end end", (0, b"", b"", 1)),
+    (
+        b"module hello; routine main() put_byte(72); end end",
+        (0, b"H", b"", 1),
+    ),
+    (
+        b"#a\nmodule\tm;\rroutine main( )put_byte (0255);put_byte(0) ; end end#",
+        (0, b"\xff\0", b"", 1),
+    ),
+    (
+        b"module n12345678901234567890123456789012345678901234567890123456789012_; routine main() end end",
+        (0, b"", b"", 1),
+    ),
+    (
+        b"module n12345678901234567890123456789012345678901234567890123456789012_5; routine main() end end",
+        NOT_BUILT,
+    ),
+    (
+        b"module m; routine main() put_byte(256); end end",
+        NOT_BUILT,
+    ),
+    (b"module m; routine main() end end end", NOT_BUILT),
+    (b"module m; routine main() end", NOT_BUILT),
+    (b"module m; ?", NOT_BUILT),
+    (b"", NOT_BUILT),
+];
+
 #[test]
 fn texts(rt: HostRuntime) -> Result<(), Fail> {
-    for (text, status, output) in [
-        (
-            b"module m; routine main() end end".as_slice(),
-            0,
-            b"".as_slice(),
-        ),
-        (
-            b"module hello; routine main() put_byte(72); end end".as_slice(),
-            0,
-            b"H".as_slice(),
-        ),
-        (
-            b"#a\nmodule\tm;\rroutine main( )put_byte (0255);put_byte(0) ; end end#".as_slice(),
-            0,
-            b"\xff\0".as_slice(),
-        ),
-        (
-            b"module n12345678901234567890123456789012345678901234567890123456789012_; routine main() end end".as_slice(),
-            0,
-            b"".as_slice(),
-        ),
-        (
-            b"module n12345678901234567890123456789012345678901234567890123456789012_5; routine main() end end".as_slice(),
-            3,
-            b"".as_slice(),
-        ),
-        (
-            b"module m; routine main() put_byte(256); end end".as_slice(),
-            3,
-            b"".as_slice(),
-        ),
-        (
-            b"module m; routine main() end end end".as_slice(),
-            3,
-            b"".as_slice(),
-        ),
-        (
-            b"module m; routine main() end".as_slice(),
-            3,
-            b"".as_slice(),
-        ),
-        (b"module m; ?".as_slice(), 3, b"".as_slice()),
-        (b"".as_slice(), 3, b"".as_slice()),
-    ] {
-        let left = call(rt.alloc(), &COMMAND, &nothing_fails(text))?;
-        assert_eq!(rt; left.status, status, "{text:?}");
-        assert_eq!(rt; left.output.bytes(), output, "{text:?}");
-        assert_eq!(rt; left.files.written(), u32::from(status == 0), "{text:?}");
-        let report = if status == 0 {
-            b"".as_slice()
-        } else {
-            b"m.tm: not built\n".as_slice()
-        };
-        assert_eq!(rt; left.report.bytes(), report, "{text:?}");
+    for &(text, answer) in &TEXTS {
+        answers(&rt, rt.alloc(), &COMMAND, &nothing_fails(text), answer)?;
     }
     Ok(())
 }
 
+const NO_COMMAND: Answer<'static> = (1, b"", b"words\n", 0);
+
+/// Words, and their answers.
+const WORDS: [(&[&str], Answer<'static>); 7] = [
+    (&[], NO_COMMAND),
+    (&["go", "out"], NO_COMMAND),
+    (&["Go", "out", "m.tm"], NO_COMMAND),
+    (&["go", "-x", "m.tm"], NO_COMMAND),
+    (&["go", "out", "-m"], NO_COMMAND),
+    (&["go", "-", "m.tm"], (0, b"", b"", 1)),
+    (&["go", "out", "absent"], (2, b"", b"file absent\n", 0)),
+];
+
 #[test]
 fn words(rt: HostRuntime) -> Result<(), Fail> {
     let given = nothing_fails(b"module m; routine main() end end");
-    for (words, status, report) in [
-        ([].as_slice(), 1, b"words\n".as_slice()),
-        (["go", "out"].as_slice(), 1, b"words\n".as_slice()),
-        (["Go", "out", "m.tm"].as_slice(), 1, b"words\n".as_slice()),
-        (["go", "-x", "m.tm"].as_slice(), 1, b"words\n".as_slice()),
-        (["go", "out", "-m"].as_slice(), 1, b"words\n".as_slice()),
-        (["go", "-", "m.tm"].as_slice(), 0, b"".as_slice()),
-        (
-            ["go", "out", "absent"].as_slice(),
-            2,
-            b"file absent\n".as_slice(),
-        ),
-    ] {
-        let left = call(rt.alloc(), words, &given)?;
-        assert_eq!(rt; left.status, status, "{words:?}");
-        assert_eq!(rt; left.report.bytes(), report, "{words:?}");
-        assert_eq!(rt; left.files.written(), u32::from(status == 0), "{words:?}");
+    for &(words, answer) in &WORDS {
+        answers(&rt, rt.alloc(), words, &given, answer)?;
     }
     Ok(())
 }
 
 #[test]
 fn executable(rt: HostRuntime) -> Result<(), Fail> {
-    let left = call(
-        rt.alloc(),
-        &COMMAND,
-        &nothing_fails(b"module m; routine main() end end"),
-    )?;
-    let file = left.files.get("out").expect(&rt, "a file");
+    let given = nothing_fails(b"module m; routine main() end end");
+    let files = answers(&rt, rt.alloc(), &COMMAND, &given, (0, b"", b"", 1))?;
+    let file = files.get("out").expect(&rt, "a file");
     assert!(rt; file.starts_with(&GREETING[..52]));
     Ok(())
 }
 
+/// How many writes there is room for, the calls of the output that fail, and the answer.
+const FAULTS: [(u32, &[u64], Answer<'static>); 4] = [
+    (9, &[], (0, b"H", b"", 1)),
+    (9, &[0], (11, b"", b"stream\n", 1)),
+    (9, &[1], (0, b"H", b"", 1)),
+    (0, &[], (2, b"", b"file out\n", 0)),
+];
+
 #[test]
 fn faults(rt: HostRuntime) -> Result<(), Fail> {
-    for (spare, output_fails, status, report, written) in [
-        (9, [].as_slice(), 0, b"".as_slice(), 1),
-        (9, [0].as_slice(), 11, b"stream\n".as_slice(), 1),
-        (9, [1].as_slice(), 0, b"".as_slice(), 1),
-        (0, [].as_slice(), 2, b"file out\n".as_slice(), 0),
-    ] {
-        let text = b"module hello; routine main() put_byte(72); end end";
+    for &(spare, output_fails, answer) in &FAULTS {
         let given = Given {
-            text,
+            text: b"module hello; routine main() put_byte(72); end end",
             spare,
             output_fails,
             report_fails: &[],
         };
-        let left = call(rt.alloc(), &COMMAND, &given)?;
-        assert_eq!(rt; left.status, status);
-        assert_eq!(rt; left.report.bytes(), report);
-        assert_eq!(rt; left.files.written(), written);
+        answers(&rt, rt.alloc(), &COMMAND, &given, answer)?;
     }
     Ok(())
 }
 
+/// The call of the report that fails, and what the report has of `words`.
+const REPORTS: [(u64, &[u8]); 2] = [(0, b""), (3, b"wor")];
+
 #[test]
 fn failing_report(rt: HostRuntime) -> Result<(), Fail> {
-    for (call_number, report) in [(0, b"".as_slice()), (3, b"wor".as_slice())] {
+    for &(number, report) in &REPORTS {
         let given = Given {
             text: b"",
             spare: 9,
             output_fails: &[],
-            report_fails: &[call_number],
+            report_fails: &[number],
         };
-        let left = call(rt.alloc(), &[], &given)?;
-        assert_eq!(rt; left.status, 1);
-        assert_eq!(rt; left.report.bytes(), report);
+        answers(&rt, rt.alloc(), &[], &given, (1, b"", report, 0))?;
     }
     Ok(())
 }
 
+/// The text of a module with so many statements.
+fn long_text(alloc: Global, count: u32) -> Result<Vec<u8>, AllocError> {
+    let mut text = b"module m; routine main()".to_vec(alloc)?;
+    for _statement in 0..count {
+        text.extend_from_slice(b" put_byte(7);")?;
+    }
+    text.extend_from_slice(b" end end")?;
+    Ok(text)
+}
+
 #[test]
 fn many_statements(rt: HostRuntime) -> Result<(), Fail> {
-    for (count, status, put) in [(4_999, 0, 4_999), (5_000, 3, 0)] {
-        let mut text = b"module m; routine main()".to_vec(rt.alloc())?;
-        for _statement in 0..count {
-            text.extend_from_slice(b" put_byte(7);")?;
-        }
-        text.extend_from_slice(b" end end")?;
-        let left = call(rt.alloc(), &COMMAND, &nothing_fails(&text))?;
-        assert_eq!(rt; left.status, status, "{count}");
-        assert_eq!(rt; left.output.bytes().len(), put, "{count}");
-    }
+    let text = long_text(rt.alloc(), 4_999)?;
+    let put = vec![in rt.alloc(); 7; 4_999]?;
+    answers(
+        &rt,
+        rt.alloc(),
+        &COMMAND,
+        &nothing_fails(&text),
+        (0, &put, b"", 1),
+    )?;
+    let text = long_text(rt.alloc(), 5_000)?;
+    answers(&rt, rt.alloc(), &COMMAND, &nothing_fails(&text), NOT_BUILT)?;
     Ok(())
 }

@@ -30,7 +30,7 @@ fn written_form(rt: HostRuntime) -> Result<(), Fail> {
 
 #[test]
 fn cut_files(rt: HostRuntime) -> Result<(), Fail> {
-    for (from, to, field) in [
+    for &(from, to, field) in &[
         (0, 52, Field::Length),
         (52, 84, Field::Entries),
         (84, 104, Field::Segment),
@@ -44,7 +44,7 @@ fn cut_files(rt: HostRuntime) -> Result<(), Fail> {
 
 #[test]
 fn damaged_files(rt: HostRuntime) -> Result<(), Fail> {
-    for (at, value, field) in [
+    for &(at, value, field) in &[
         (0, 0, Field::Magic),
         (4, 2, Field::Class),
         (5, 2, Field::Order),
@@ -68,16 +68,13 @@ fn damaged_files(rt: HostRuntime) -> Result<(), Fail> {
 #[test]
 fn linked_file(rt: HostRuntime) -> Result<(), Fail> {
     let segments = read_elf(rt.alloc(), LINKED)?;
-    assert_eq!(rt; segments.entry, 0x100e8);
-    assert_eq!(rt; segments.list.len(), 2);
-    for (k, at, flags, size, bytes) in [
-        (0, 0x10000, 5, 0x110, &LINKED[..0x110]),
-        (1, 0x10110, 6, 9, b"F".as_slice()),
+    assert_eq!(rt; (segments.entry, segments.list.len()), (0x100e8, 2));
+    for (k, fields, bytes) in [
+        (0, (0x10000, 5, 0x110), &LINKED[..0x110]),
+        (1, (0x10110, 6, 9), b"F".as_slice()),
     ] {
         let segment = segments.list.get(k).expect(&rt, "a segment");
-        assert_eq!(rt; segment.at, at);
-        assert_eq!(rt; segment.flags, flags);
-        assert_eq!(rt; segment.size, size);
+        assert_eq!(rt; (segment.at, segment.flags, segment.size), fields);
         assert_eq!(rt; segment.bytes.as_slice(), bytes);
     }
     Ok(())
@@ -85,7 +82,7 @@ fn linked_file(rt: HostRuntime) -> Result<(), Fail> {
 
 #[test]
 fn changed_segments(rt: HostRuntime) -> Result<(), Fail> {
-    for (at, value, refused) in [
+    for &(at, value, refused) in &[
         (24, 3, None),
         (36, 2, None),
         (120, 0x26f, None),
@@ -104,6 +101,27 @@ fn changed_segments(rt: HostRuntime) -> Result<(), Fail> {
         assert!(rt; at < 600);
         file[at..at + 4].copy_from_slice(&u32::to_le_bytes(value));
         assert_eq!(rt; refusal(rt.alloc(), &file)?, refused, "{value:x} at {at}");
+    }
+    Ok(())
+}
+
+#[test]
+fn texts(rt: HostRuntime) -> Result<(), Fail> {
+    for &(field, text) in &[
+        (Field::Length, "bad elf length"),
+        (Field::Magic, "bad elf magic"),
+        (Field::Class, "bad elf class"),
+        (Field::Order, "bad elf order"),
+        (Field::Version, "bad elf version"),
+        (Field::Kind, "bad elf kind"),
+        (Field::Machine, "bad elf machine"),
+        (Field::Flags, "bad elf flags"),
+        (Field::Entries, "bad elf entries"),
+        (Field::Segment, "bad elf segment"),
+    ] {
+        let error = ElfError::BadElf(field);
+        let shown = format!(in rt.alloc(); "{error}")?;
+        assert_eq!(rt; shown.as_str(), text);
     }
     Ok(())
 }

@@ -4,7 +4,7 @@ use th_rv::{Instr, decode, encode};
 
 #[test]
 fn words_and_instructions(rt: HostRuntime) {
-    for (word, instr) in [
+    for &(word, instr) in &[
         (
             0xfedc_b537,
             Instr::Lui {
@@ -407,14 +407,13 @@ fn words_and_instructions(rt: HostRuntime) {
         ),
     ] {
         let decoded = decode(word).expect(&rt, "an instruction");
-        assert_eq!(rt; decoded, instr, "{word:x}");
-        assert_eq!(rt; encode(decoded), word, "{instr:?}");
+        assert_eq!(rt; (decoded, encode(decoded)), (instr, word), "{word:x}");
     }
 }
 
 #[test]
 fn no_instructions(rt: HostRuntime) {
-    for word in [
+    for &word in &[
         0x0000_0000,
         0xffff_ffff,
         0x0000_00f3,

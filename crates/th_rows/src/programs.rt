@@ -4,7 +4,8 @@ ghost use Rattle.std.specs.Prelude.{◌≡◌, length, IfOk};
 use std::alloc::{AllocError, Global};
 use std::test::Fail;
 use th_core::{
-    CoreBody, CoreExpr, CoreModule, CoreProgram, CoreStmt, CoreUnit, End, InterpretError, interpret,
+    CoreBody, CoreExpr, CoreModule, CoreProgram, CoreStmt, CoreUnit, End, InterpretError, depth,
+    interpret, locals, nodes,
 };
 use th_tree::Name;
 use th_world::{MemSink, MemSource};
@@ -38,20 +39,29 @@ fn program(
     CoreProgram::of(alloc, modules)
 }
 
+/// The program that puts a byte.
+fn putting(alloc: Global, byte: u32) -> Result<Option<CoreProgram>, AllocError> {
+    program(alloc, ("hello", "hello/main", byte), ("a", "a/f", 73))
+}
+
 #[test]
 fn fitting_modules(rt: HostRuntime) -> Result<(), Fail> {
-    for (first, second, fits) in [
-        (("b", "b/main", 72), ("a", "a/f", 0x7fff_ffff), true),
-        (("b", "b/main", 72), ("a", "a/f", 0x8000_0000), false),
-        (("b", "b/main", 72), ("b", "b/f", 72), false),
-        (("b", "b/main", 72), ("a", "a/main", 72), false),
-        (("b", "b/g", 72), ("a", "a/f", 72), false),
-        (("b", "b/main", 72), ("a", "a/1", 72), false),
-        (("b", "b/main", 72), ("a", "a/end", 72), false),
-        (("b", "b/main", 72), ("a", "b/f", 72), false),
-        (("b", "b/main", 72), ("a", "f", 72), false),
-        (("b", "b/main", 72), ("if", "if/f", 72), false),
-        (("b", "b/main", 72), ("", "/f", 72), false),
+    for &(first, second, fits) in &[
+        (("hello", "hello/main", 72), ("a", "a/f", 0x7fff_ffff), true),
+        (
+            ("hello", "hello/main", 72),
+            ("a", "a/f", 0x8000_0000),
+            false,
+        ),
+        (("hello", "hello/main", 72), ("hello", "hello/f", 72), false),
+        (("hello", "hello/main", 72), ("a", "a/main", 72), false),
+        (("hello", "hello/g", 72), ("a", "a/f", 72), false),
+        (("hello", "hello/main", 72), ("a", "a/1", 72), false),
+        (("hello", "hello/main", 72), ("a", "a/end", 72), false),
+        (("hello", "hello/main", 72), ("a", "hello/f", 72), false),
+        (("hello", "hello/main", 72), ("a", "f", 72), false),
+        (("hello", "hello/main", 72), ("if", "if/f", 72), false),
+        (("hello", "hello/main", 72), ("", "/f", 72), false),
     ] {
         let found = program(rt.alloc(), first, second)?;
         assert_eq!(rt; found.is_some(), fits, "{first:?} and {second:?}");
@@ -59,19 +69,23 @@ fn fitting_modules(rt: HostRuntime) -> Result<(), Fail> {
     Ok(())
 }
 
+/// Numbers of units, and their names.
+const UNITS: [(u32, Option<&[u8]>); 3] = [(0, Some(b"a/f")), (1, Some(b"hello/main")), (2, None)];
+
 #[test]
 fn units(rt: HostRuntime) -> Result<(), Fail> {
-    let program = program(rt.alloc(), ("b", "b/main", 72), ("a", "a/f", 73))?.expect(
-        &rt,
-        "a program",
-    );
-    for (k, name) in [
-        (0, Some(b"a/f".as_slice())),
-        (1, Some(b"b/main".as_slice())),
-        (2, None),
-    ] {
+    let program = putting(rt.alloc(), 72)?.expect(&rt, "a program");
+    for &(k, name) in &UNITS {
         assert_eq!(rt; program.unit(k), name, "at {k}");
     }
+    Ok(())
+}
+
+#[test]
+fn counts(rt: HostRuntime) -> Result<(), Fail> {
+    let module = module(rt.alloc(), "a", "a/f", 72)?;
+    let unit = module.units.as_slice().first().expect(&rt, "a unit");
+    assert_eq!(rt; [nodes(unit), locals(unit), depth(unit)], [3, 0, 1]);
     Ok(())
 }
 
@@ -86,26 +100,25 @@ fn word_of(end: &End) -> &str {
     }
 }
 
+/// A byte, the room, how the run that puts the byte ends, what it puts, and the units that it enters.
+const RUNS: [(u32, Option<u64>, &str, &[u8], &[u32]); 5] = [
+    (72, None, "ended", b"H", &[1]),
+    (72, Some(260), "ended", b"H", &[1]),
+    (72, Some(259), "no room", b"", &[]),
+    (255, None, "ended", b"\xff", &[1]),
+    (256, None, "raised bounds", b"", &[1]),
+];
+
 #[test]
 fn runs(rt: HostRuntime) -> Result<(), Fail> {
     let alloc = rt.alloc();
-    for (byte, room, end, bytes, entered) in [
-        (72, None, "ended", b"H".as_slice(), [1].as_slice()),
-        (72, Some(260), "ended", b"H".as_slice(), [1].as_slice()),
-        (72, Some(259), "no room", b"".as_slice(), [].as_slice()),
-        (255, None, "ended", b"\xff".as_slice(), [1].as_slice()),
-        (256, None, "raised bounds", b"".as_slice(), [1].as_slice()),
-    ] {
-        let program = program(alloc, ("b", "b/main", byte), ("a", "a/f", 73))?.expect(
-            &rt,
-            "a program",
-        );
+    for &(byte, room, end, bytes, entered) in &RUNS {
+        let program = putting(alloc, byte)?.expect(&rt, "a program");
         let mut source = MemSource::new(Vec::new(alloc), Vec::new(alloc));
         let mut sink = MemSink::new(alloc, 9, Vec::new(alloc))?;
         let run = interpret(alloc, &program, &mut source, &mut sink, 0, room)?;
-        assert_eq!(rt; word_of(&run.end), end, "{byte}");
-        assert_eq!(rt; sink.bytes(), bytes, "{byte}");
-        assert_eq!(rt; run.entered.as_slice(), entered, "{byte}");
+        let found = (word_of(&run.end), sink.bytes(), run.entered.as_slice());
+        assert_eq!(rt; found, (end, bytes, entered), "{byte}");
     }
     Ok(())
 }
@@ -113,7 +126,7 @@ fn runs(rt: HostRuntime) -> Result<(), Fail> {
 #[test]
 fn failing_sink(rt: HostRuntime) -> Result<(), Fail> {
     let alloc = rt.alloc();
-    let program = program(alloc, ("b", "b/main", 72), ("a", "a/f", 73))?.expect(&rt, "a program");
+    let program = putting(alloc, 72)?.expect(&rt, "a program");
     let mut source = MemSource::new(Vec::new(alloc), Vec::new(alloc));
     let mut sink = MemSink::new(alloc, 0, Vec::new(alloc))?;
     let answer = interpret(alloc, &program, &mut source, &mut sink, 0, None);

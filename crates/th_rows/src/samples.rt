@@ -8,14 +8,13 @@ pub const GREETING: &[u8; 104] = b"\x7fELF\x01\x01\x01\0\0\0\0\0\0\0\0\0\
 \x01\0\0\0\x54\0\0\0\0\0\x01\0\0\0\x01\0\x14\0\0\0\x14\0\0\0\x05\0\0\0\x04\0\0\0\
 \x13\x05\x80\x04\x93\x08\x10\0\x73\0\0\0\x93\x08\x30\0\x73\0\0\0";
 
-/// The code words of `GREETING`: `addi a0, zero, 72`, `addi a7, zero, 1`, `ecall`,
-/// `addi a7, zero, 3`, `ecall`.
+/// The code words of `GREETING`.
 pub const GREETING_WORDS: [u32; 5] = [
-    0x0480_0513,
-    0x0010_0893,
-    0x0000_0073,
-    0x0030_0893,
-    0x0000_0073,
+    0x0480_0513, // addi a0, zero, 72
+    0x0010_0893, // addi a7, zero, 1
+    0x0000_0073, // ecall
+    0x0030_0893, // addi a7, zero, 3
+    0x0000_0073, // ecall
 ];
 
 /// What LLD made of an object of LLVM's assembler: entry 0x100e8; the headers, a note and the code

@@ -1,5 +1,7 @@
 //! Tokens and numbers of names, against docs/LANGUAGE.md, by hand.
 
+ghost use Rattle.std.specs.Prelude.{length, ◌<◌};
+
 use std::alloc::Global;
 use std::process::Abort;
 use std::test::Fail;
@@ -24,7 +26,7 @@ fn has_kinds(
 
 #[test]
 fn reserved_words(rt: HostRuntime) -> Result<(), Fail> {
-    for (text, word) in [
+    for &(text, word) in &[
         ("module", Reserved::KeyModule),
         ("interface", Reserved::KeyInterface),
         ("implements", Reserved::KeyImplements),
@@ -89,7 +91,7 @@ fn reserved_words(rt: HostRuntime) -> Result<(), Fail> {
 
 #[test]
 fn symbols(rt: HostRuntime) -> Result<(), Fail> {
-    for (text, symbol) in [
+    for &(text, symbol) in &[
         ("(", Sym::OpenParen),
         (")", Sym::CloseParen),
         ("[", Sym::OpenSquare),
@@ -123,7 +125,7 @@ fn symbols(rt: HostRuntime) -> Result<(), Fail> {
 
 #[test]
 fn longest_tokens(rt: HostRuntime) -> Result<(), Fail> {
-    for (text, first, second) in [
+    for &(text, first, second) in &[
         (": =", Sym::Colon, Sym::Equal),
         (":==", Sym::Becomes, Sym::Equal),
         ("===", Sym::Same, Sym::Equal),
@@ -138,96 +140,93 @@ fn longest_tokens(rt: HostRuntime) -> Result<(), Fail> {
     Ok(())
 }
 
+/// Texts, and the kinds of their tokens.
+const TEXTS: [(&str, &[TokenKind]); 13] = [
+    ("", &[]),
+    ("#", &[]),
+    (" \t\r\n# module", &[]),
+    ("a#b\nc", &[TokenKind::Name; 2]),
+    ("a\rb\tc", &[TokenKind::Name; 3]),
+    ("Module modules put_bytes a_1 Z", &[TokenKind::Name; 5]),
+    ("007", &[TokenKind::Number(7)]),
+    ("2147483647", &[TokenKind::Number(2147483647)]),
+    ("0000000000002147483647", &[TokenKind::Number(2147483647)]),
+    ("1a", &[TokenKind::Number(1), TokenKind::Name]),
+    ("\"\"", &[TokenKind::Text]),
+    ("\"a#\\n\\\"\\\\\"", &[TokenKind::Text]),
+    ("\"a\"\"b\"", &[TokenKind::Text; 2]),
+];
+
 #[test]
 fn names_and_literals(rt: HostRuntime) -> Result<(), Fail> {
-    for (text, kinds) in [
-        ("", [].as_slice()),
-        ("#", [].as_slice()),
-        (" \t\r\n# module", [].as_slice()),
-        ("a#b\nc", [TokenKind::Name; 2].as_slice()),
-        ("a\rb\tc", [TokenKind::Name; 3].as_slice()),
-        (
-            "Module modules put_bytes a_1 Z",
-            [TokenKind::Name; 5].as_slice(),
-        ),
-        ("007", [TokenKind::Number(7)].as_slice()),
-        ("2147483647", [TokenKind::Number(2147483647)].as_slice()),
-        (
-            "0000000000002147483647",
-            [TokenKind::Number(2147483647)].as_slice(),
-        ),
-        ("1a", [TokenKind::Number(1), TokenKind::Name].as_slice()),
-        ("\"\"", [TokenKind::Text].as_slice()),
-        ("\"a#\\n\\\"\\\\\"", [TokenKind::Text].as_slice()),
-        ("\"a\"\"b\"", [TokenKind::Text; 2].as_slice()),
-    ] {
+    for &(text, kinds) in &TEXTS {
         has_kinds(&rt, rt.alloc(), text, kinds)?;
     }
     Ok(())
 }
 
+/// The places of the tokens of `module m # c`, a line feed and `; 12`, and their bytes.
+const SPANS: [(u32, u32, &[u8]); 4] = [
+    (0, 6, b"module"),
+    (7, 8, b"m"),
+    (13, 14, b";"),
+    (15, 17, b"12"),
+];
+
 #[test]
 fn spans(rt: HostRuntime) -> Result<(), Fail> {
     let tokens = lex(rt.alloc(), b"module m # c\n; 12")?;
     assert_eq!(rt; tokens.len(), 4);
-    for (k, start, end, bytes) in [
-        (0, 0, 6, b"module".as_slice()),
-        (1, 7, 8, b"m".as_slice()),
-        (2, 13, 14, b";".as_slice()),
-        (3, 15, 17, b"12".as_slice()),
-    ] {
+    for k in 0..4 {
         let token = tokens.get(k).expect(&rt, "a token");
-        assert_eq!(rt; [token.start, token.end], [start, end]);
         assert!(rt; k < tokens.len());
-        assert_eq!(rt; tokens.slice(k), bytes);
+        assert_eq!(rt; (token.start, token.end, tokens.slice(k)), SPANS[k]);
     }
     Ok(())
 }
 
-#[test]
-fn bad_bytes(rt: HostRuntime) {
-    for (text, place) in [
-        (b"module m; ?".as_slice(), 10),
-        (b"~".as_slice(), 0),
-        (b"a ~ =".as_slice(), 2),
-        (b"_".as_slice(), 0),
-        (b"x\xff".as_slice(), 1),
-        (b"\0".as_slice(), 0),
-        (b"a \"b".as_slice(), 2),
-        (b"\"\\t\"".as_slice(), 0),
-        (b"\"\n\"".as_slice(), 0),
-        (b"\"\x7f\"".as_slice(), 0),
-        (b"? 2147483648".as_slice(), 0),
-    ] {
-        assert!(rt; text.len() < 100);
-        let answer = lex(rt.alloc(), text);
-        assert!(rt;
-            matches!(answer, Err(LexError::BadByte(at)) if at == place),
-            "{text:?}"
-        );
+/// Why a text has no tokens, and where.
+fn refusal(alloc: Global, text: &[u8]) -> Option<(&str, u32)>
+    requires { length text.now < 100 }
+{
+    match lex(alloc, text) {
+        Ok(_) => None,
+        Err(LexError::BadByte(at)) => Some(("bad byte", at)),
+        Err(LexError::WideNumber(at)) => Some(("wide number", at)),
+        Err(LexError::Memory) => None,
     }
 }
 
+/// Texts, why they have no tokens, and where.
+const REFUSED: [(&[u8], &str, u32); 14] = [
+    (b"module m; ?", "bad byte", 10),
+    (b"~", "bad byte", 0),
+    (b"a ~ =", "bad byte", 2),
+    (b"_", "bad byte", 0),
+    (b"x\xff", "bad byte", 1),
+    (b"\0", "bad byte", 0),
+    (b"a \"b", "bad byte", 2),
+    (b"\"\\t\"", "bad byte", 0),
+    (b"\"\n\"", "bad byte", 0),
+    (b"\"\x7f\"", "bad byte", 0),
+    (b"? 2147483648", "bad byte", 0),
+    (b"put_int(2147483648)", "wide number", 8),
+    (b"1 00002147483648", "wide number", 2),
+    (b"99999999999999999999999999 ?", "wide number", 0),
+];
+
 #[test]
-fn wide_numbers(rt: HostRuntime) {
-    for (text, place) in [
-        (b"put_int(2147483648)".as_slice(), 8),
-        (b"1 00002147483648".as_slice(), 2),
-        (b"99999999999999999999999999 ?".as_slice(), 0),
-    ] {
+fn refusals(rt: HostRuntime) {
+    for &(text, why, place) in &REFUSED {
         assert!(rt; text.len() < 100);
-        let answer = lex(rt.alloc(), text);
-        assert!(rt;
-            matches!(answer, Err(LexError::WideNumber(at)) if at == place),
-            "{text:?}"
-        );
+        assert_eq!(rt; refusal(rt.alloc(), text), Some((why, place)), "{text:?}");
     }
 }
 
 #[test]
 fn name_table(rt: HostRuntime) -> Result<(), Fail> {
     let mut table = NameTable::new(rt.alloc());
-    for (name, number) in [(b"a", 0), (b"b", 1), (b"a", 0), (b"B", 2)] {
+    for &(name, number) in &[(b"a", 0), (b"b", 1), (b"a", 0), (b"B", 2)] {
         assert!(rt; table.len() < 100);
         assert_eq!(rt; table.number(rt.alloc(), name)?, number);
     }

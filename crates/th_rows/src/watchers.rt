@@ -16,11 +16,15 @@ fn lists(rt: HostRuntime) -> Result<(), Fail> {
     for pc in [0, 4, 8, 12] {
         retire_all(&mut list, pc);
     }
-    assert_eq!(rt; detach(&mut list, 3), None);
-    assert_eq!(rt; detach(&mut list, 1), Some((2, Some(8))));
-    assert_eq!(rt; detach(&mut list, 2), None);
-    assert_eq!(rt; detach(&mut list, 0), Some((1, Some(8))));
-    assert_eq!(rt; detach(&mut list, 0), Some((3, Some(8))));
+    for &(k, reading) in &[
+        (3, None),
+        (1, Some((2, Some(8)))),
+        (2, None),
+        (0, Some((1, Some(8)))),
+        (0, Some((3, Some(8)))),
+    ] {
+        assert_eq!(rt; detach(&mut list, k), reading, "at {k}");
+    }
     Ok(())
 }
 
@@ -31,7 +35,7 @@ fn tails(rt: HostRuntime) {
     for pc in 0..40 {
         watcher.retire(pc);
     }
-    for (k, hit) in [(0, Some(39)), (1, Some(38)), (15, Some(24)), (16, None)] {
+    for &(k, hit) in &[(0, Some(39)), (1, Some(38)), (15, Some(24)), (16, None)] {
         assert_eq!(rt; watcher.tail(k), hit, "at {k}");
     }
     assert_eq!(rt; watcher.count(), 38);
@@ -42,7 +46,7 @@ fn tails(rt: HostRuntime) {
 #[test]
 fn spans(rt: HostRuntime) {
     let mut watcher = SpanCounter::new();
-    for (low, high, count, last) in [
+    for &(low, high, count, last) in &[
         (4, 8, 2, Some(7)),
         (8, 4, 0, None),
         (5, 5, 0, None),
@@ -52,7 +56,7 @@ fn spans(rt: HostRuntime) {
         for pc in [0xffff_ffff, 0, 3, 4, 7, 8] {
             watcher.retire(pc);
         }
-        assert_eq!(rt; watcher.count(), count, "{low} to {high}");
-        assert_eq!(rt; watcher.last(), last, "{low} to {high}");
+        let found = (watcher.count(), watcher.last());
+        assert_eq!(rt; found, (count, last), "{low} to {high}");
     }
 }
