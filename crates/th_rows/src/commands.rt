@@ -104,13 +104,17 @@ fn texts(rt: HostRuntime) -> Result<(), Fail> {
 const NO_COMMAND: Answer<'static> = (1, b"", b"words\n", 0);
 
 /// Words, and their answers.
-const WORDS: [(&[&str], Answer<'static>); 7] = [
+const WORDS: [(&[&str], Answer<'static>); 11] = [
     (&[], NO_COMMAND),
     (&["go", "out"], NO_COMMAND),
     (&["Go", "out", "m.tm"], NO_COMMAND),
     (&["go", "-x", "m.tm"], NO_COMMAND),
     (&["go", "out", "-m"], NO_COMMAND),
+    (&["run"], NO_COMMAND),
+    (&["run", "--region", "4095", "m.tm"], NO_COMMAND),
+    (&["run", "--steps=1", "--steps=1", "m.tm"], NO_COMMAND),
     (&["go", "-", "m.tm"], (0, b"", b"", 1)),
+    (&["run", "m.tm"], (5, b"", b"m.tm: bad elf length\n", 0)),
     (&["go", "out", "absent"], (2, b"", b"file absent\n", 0)),
 ];
 
@@ -119,6 +123,65 @@ fn words(rt: HostRuntime) -> Result<(), Fail> {
     let given = nothing_fails(b"module m; routine main() end end");
     for &(words, answer) in &WORDS {
         answers(&rt, rt.alloc(), words, &given, answer)?;
+    }
+    Ok(())
+}
+
+/// Code of 20 bytes in place of that of `GREETING`, or less of it, the words, and the answers.
+const RUNS: [(&[u8], &[&str], Answer<'static>); 9] = [
+    (
+        b"\x13\x05\x80\x04\x93\x08\x10\0\x73\0\0\0\x93\x08\x30\0\x73\0\0\0",
+        &["run", "m.tm"],
+        (0, b"H", b"", 0),
+    ),
+    (
+        b"\x13\x05\x80\x04\x93\x08\x10\0\x73\0\0\0\x93\x08\x30\0\x73\0\0\0",
+        &["run", "m.tm", "--region=4096", "--steps", "4"],
+        (8, b"H", b"steps\n", 0),
+    ),
+    // A loop of one instruction.
+    (
+        b"\x6f\0\0\0\0\0\0\0\0\0\0\0\0\0\0\0\0\0\0\0",
+        &["run", "--steps=1000", "--", "m.tm"],
+        (8, b"", b"steps\n", 0),
+    ),
+    (
+        b"\0\0\0\0\0\0\0\0\0\0\0\0\0\0\0\0\0\0\0\0",
+        &["run", "m.tm"],
+        (10, b"", b"trap illegal at 00010000\n", 0),
+    ),
+    // jalr zero, 2(zero)
+    (
+        b"\x67\0\x20\0\0\0\0\0\0\0\0\0\0\0\0\0\0\0\0\0",
+        &["run", "m.tm"],
+        (10, b"", b"trap jump at 00010000\n", 0),
+    ),
+    // addi a7, zero, 5; ecall
+    (
+        b"\x93\x08\x50\0\x73\0\0\0\0\0\0\0\0\0\0\0\0\0\0\0",
+        &["run", "m.tm"],
+        (7, b"", b"room\n", 0),
+    ),
+    // lui a0, 16; addi a0, a0, 20; addi a1, zero, 0; addi a7, zero, 4; ecall
+    (
+        b"\x37\x05\x01\0\x13\x05\x45\x01\x93\x05\0\0\x93\x08\x40\0\x73\0\0\0",
+        &["run", "m.tm"],
+        (6, b"", b"exception \n", 0),
+    ),
+    (
+        b"\x73\0\0\0",
+        &["run", "m.tm"],
+        (5, b"", b"m.tm: bad elf segment\n", 0),
+    ),
+    (b"", &["run", "absent"], (2, b"", b"file absent\n", 0)),
+];
+
+#[test]
+fn runs(rt: HostRuntime) -> Result<(), Fail> {
+    for &(code, words, answer) in &RUNS {
+        let mut file = GREETING[..84].to_vec(rt.alloc())?;
+        file.extend_from_slice(code)?;
+        answers(&rt, rt.alloc(), words, &nothing_fails(&file), answer)?;
     }
     Ok(())
 }
