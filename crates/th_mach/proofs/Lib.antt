@@ -1,4 +1,4 @@
-pub mod Areas
+pub mod Apart
 pub mod Names
 pub mod Gets
 pub mod Turns
