@@ -38,7 +38,7 @@ spans_next : (m : Area) (a n : ℕ) → Spans m a (suc n) → Spans m (a + 1) n
 spans_next m a n s = record { from = omega arith; within = omega arith }
 
 -- areas with the same first address and count of bytes have the same addresses
-same_has : (x y : Area) (a : ℕ) → y.at ≡ x.at → length y.bytes ≡ length x.bytes → has y a ≡ has x a
+pub same_has : (x y : Area) (a : ℕ) → y.at ≡ x.at → length y.bytes ≡ length x.bytes → has y a ≡ has x a
 unfolding has
 same_has x y a first size = rw (first, size) refl
 

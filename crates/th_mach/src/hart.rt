@@ -1,6 +1,6 @@
 //! The hart: program counter, registers and memory, and what each instruction does to them.
 
-ghost use Rattle.std.specs.Prelude.{◌≡◌, ◌<◌, ◌≤◌, ◌^◌, ℕ, cond, option_map, IfOk, IfErr};
+ghost use Rattle.std.specs.Prelude.{◌≡◌, ◌<◌, ◌≤◌, ◌%◌, ◌^◌, ℕ, cond, option_map, IfOk, IfErr};
 ghost use Rattle.th_rv.specs.Step.{Traps, step, reg, with_reg, address, jump, branch, load, store, whole, environment_call, raise, execute};
 ghost use Rattle.th_rv.specs.Memory.{number_at, bytes_at};
 ghost use Rattle.th_rv.specs.Table.{Valid};
@@ -107,6 +107,21 @@ impl Hart {
         if self.pc % 4 != 0 {
             return Err(Cause::Fetch);
         }
+        match self.memory.instr(u64::from(self.pc)) {
+            Some(instr) => Ok(instr),
+            None => self.fetch(),
+        }
+    }
+
+    /// The instruction at the program counter, a multiple of 4, by the word there, or why there is
+    /// none.
+    #[tactic(auto, unfolding(th_rv::specs::Step::step))]
+    fn fetch(&self) -> Result<Instr, Cause>
+        requires { self.now.pc % 4 ≡ 0 }
+        ensures found { IfOk result (λ instr. step self.now ≡ execute instr self.now) }
+        ensures valid { IfOk result (λ instr. Valid instr) }
+        ensures none { IfErr result (λ cause. step self.now ≡ Traps cause) }
+    {
         match self.memory.word(1, u64::from(self.pc)) {
             None => Err(Cause::Fetch),
             Some(word) => decode(word).ok_or(Cause::Illegal),

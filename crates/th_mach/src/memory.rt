@@ -1,9 +1,11 @@
 //! Memory: areas of bytes, of which none has an address of another.
 
-ghost use Rattle.std.specs.Prelude.{◌≡◌, ◌<◌, ◌≤◌, ◌^◌, ℕ, [], ◌∷◌, ◌++◌, length, map, All, IsTrue, IfOk, IfSome, IfNone, option_map};
+ghost use Rattle.std.specs.Prelude.{◌≡◌, ◌<◌, ◌≤◌, ◌^◌, ℕ, [], ◌∷◌, ◌++◌, length, map, All, IsTrue, IfOk, IfSome, IfNone, Some, option_map};
 ghost use Rattle.th_elf.specs.Run.{area_of, region};
 ghost use Rattle.th_elf.specs.Lawful.{AreLawful};
 ghost use Rattle.th_rv.specs.Memory.{byte_at, put_at, number_at, put_number, bytes_at};
+ghost use Rattle.th_rv.specs.Table.{Valid};
+ghost use Rattle.th_mach.specs.Code.{spelled};
 ghost use Rattle.th_mach.specs.Apart.{Holds, IsNowhere};
 
 use crate::area::{Area, REGION};
@@ -12,6 +14,7 @@ use arrayvec::ArrayVec;
 use std::alloc::{AllocError, Global};
 use std::marker::Model;
 use th_elf::Segment;
+use th_rv::Instr;
 
 /// The greatest length of an exception's name, in bytes.
 pub const LONGEST_NAME: usize = 129;
@@ -183,6 +186,20 @@ impl Memory {
         let fourth = self.byte(flag, at + 3)?;
         let high = u32::from(third) + 256 * u32::from(fourth);
         Some(u32::from(first) + 256 * (u32::from(second) + 256 * high))
+    }
+
+    /// The instruction at an address, where it is decoded.
+    pub(crate) fn instr(&self, at: u64) -> Option<Instr>
+        ensures spells { IfSome result (λ instr. spelled (number_at 4 1 self.now at) ≡ Some instr) }
+        ensures valid { IfSome result (λ instr. Valid instr) }
+    {
+        match self.holder(at, 4) {
+            Some(k) => {
+                let area = &self.areas[k];
+                area.instr(at)
+            }
+            None => None,
+        }
     }
 
     /// So many bytes from an address on; none where one of them can't be loaded.

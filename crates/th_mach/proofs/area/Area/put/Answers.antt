@@ -1,8 +1,0 @@
-use Rattle.std.proofs.Common.{[], ◌∷◌, ap, ◌∙◌, refl}
-use Rattle.th_rv.specs.Memory.{area_set}
-use Rattle.th_mach.proofs.Apart.{put_alone}
-use Rattle.th_mach.proofs.area.Area.put.Goals as goal
-
-pub returns-clause-alone : goal.returns-clause-alone
-unfolding area_set
-returns-clause-alone c = put_alone c.args.self.now c.args.at c.args.value c.requires.from c.requires.within ∙ ap (λ y. y ∷ []) (rw (← c.self.view_is, c.from-first.ensures) refl)
