@@ -115,6 +115,8 @@ impl Hart {
 
     /// The instruction at the program counter, a multiple of 4, by the word there, or why there is
     /// none.
+    #[cold]
+    #[inline(never)]
     #[tactic(auto, unfolding(th_rv::specs::Step::step))]
     fn fetch(&self) -> Result<Instr, Cause>
         requires { self.now.pc % 4 ≡ 0 }

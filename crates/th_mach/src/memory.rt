@@ -77,6 +77,7 @@ impl Memory {
     }
 
     /// Whether this area has so many addresses from one on.
+    #[inline(always)]
     fn is_holder(&self, k: usize, at: u64, count: usize) -> bool
         ensures { IsTrue result → Holds self.now k at count }
     {
@@ -88,6 +89,7 @@ impl Memory {
     }
 
     /// An area that has so many addresses from one on, where the places lead to one.
+    #[inline(always)]
     fn holder(&self, at: u64, count: usize) -> Option<usize>
         ensures { IfSome result (λ k. Holds self.now k at count) }
     {
@@ -99,6 +101,15 @@ impl Memory {
         if self.is_holder(near, at, count) {
             return Some(near);
         }
+        self.far_holder(at, count)
+    }
+
+    /// The same where the page's area isn't one.
+    #[cold]
+    #[inline(never)]
+    fn far_holder(&self, at: u64, count: usize) -> Option<usize>
+        ensures { IfSome result (λ k. Holds self.now k at count) }
+    {
         let found = self.places.find(at);
         if self.is_holder(found, at, count) {
             return Some(found);
@@ -132,6 +143,7 @@ impl Memory {
     }
 
     /// The halfword at an address, where the flag allows each of its bytes.
+    #[inline(always)]
     pub(crate) fn half(&self, flag: u32, at: u64) -> Option<u32>
         requires flag { 0 < flag }
         requires room { at < 2 ^ 32 }
@@ -148,6 +160,8 @@ impl Memory {
     }
 
     /// The halfword at an address whose bytes may lie in several areas.
+    #[cold]
+    #[inline(never)]
     fn split_half(&self, flag: u32, at: u64) -> Option<u32>
         requires flag { 0 < flag }
         requires room { at < 2 ^ 32 }
@@ -160,6 +174,7 @@ impl Memory {
     }
 
     /// The word at an address, where the flag allows each of its bytes.
+    #[inline(always)]
     pub(crate) fn word(&self, flag: u32, at: u64) -> Option<u32>
         requires flag { 0 < flag }
         requires room { at < 2 ^ 32 }
@@ -175,6 +190,8 @@ impl Memory {
     }
 
     /// The word at an address whose bytes may lie in several areas.
+    #[cold]
+    #[inline(never)]
     fn split_word(&self, flag: u32, at: u64) -> Option<u32>
         requires flag { 0 < flag }
         requires room { at < 2 ^ 32 }
@@ -189,6 +206,7 @@ impl Memory {
     }
 
     /// The instruction at an address, where it is decoded.
+    #[inline(always)]
     pub(crate) fn instr(&self, at: u64) -> Option<Instr>
         ensures spells { IfSome result (λ instr. spelled (number_at 4 1 self.now at) ≡ Some instr) }
         ensures valid { IfSome result (λ instr. Valid instr) }
@@ -229,6 +247,7 @@ impl Memory {
     }
 
     /// Puts the low halfword of a word at an address.
+    #[inline(always)]
     pub(crate) fn put_half(&mut self, at: u64, value: u32)
         requires { at < 2 ^ 32 }
         ensures { self.new ≡ put_number 2 self.old at value }
@@ -243,6 +262,8 @@ impl Memory {
     }
 
     /// Puts the low halfword of a word at an address whose bytes may lie in several areas.
+    #[cold]
+    #[inline(never)]
     fn put_split_half(&mut self, at: u64, value: u32)
         requires { at < 2 ^ 32 }
         ensures { self.new ≡ put_number 2 self.old at value }
@@ -252,6 +273,7 @@ impl Memory {
     }
 
     /// Puts a word at an address.
+    #[inline(always)]
     pub(crate) fn put_word(&mut self, at: u64, value: u32)
         requires { at < 2 ^ 32 }
         ensures { self.new ≡ put_number 4 self.old at value }
@@ -266,6 +288,8 @@ impl Memory {
     }
 
     /// Puts a word at an address whose bytes may lie in several areas.
+    #[cold]
+    #[inline(never)]
     fn put_split_word(&mut self, at: u64, value: u32)
         requires { at < 2 ^ 32 }
         ensures { self.new ≡ put_number 4 self.old at value }
