@@ -1,4 +1,5 @@
-pub mod Areas
+pub mod Apart
+pub mod Kept
 pub mod Names
 pub mod Gets
 pub mod Turns

@@ -1,3 +1,5 @@
+pub mod Apart
+pub mod Code
 pub mod Done
 pub mod Group
 pub mod Counted

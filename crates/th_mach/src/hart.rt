@@ -1,6 +1,6 @@
 //! The hart: program counter, registers and memory, and what each instruction does to them.
 
-ghost use Rattle.std.specs.Prelude.{◌≡◌, ◌<◌, ◌≤◌, ◌^◌, ℕ, cond, option_map, IfOk, IfErr};
+ghost use Rattle.std.specs.Prelude.{◌≡◌, ◌<◌, ◌≤◌, ◌%◌, ◌^◌, ℕ, cond, option_map, IfOk, IfErr};
 ghost use Rattle.th_rv.specs.Step.{Traps, step, reg, with_reg, address, jump, branch, load, store, whole, environment_call, raise, execute};
 ghost use Rattle.th_rv.specs.Memory.{number_at, bytes_at};
 ghost use Rattle.th_rv.specs.Table.{Valid};
@@ -12,9 +12,7 @@ ghost use Rattle.th_mach.specs.Ran.{outcome_of};
 ghost use Rattle.th_mach.specs.Group.{group};
 
 use crate::answer::{Outcome, Step};
-use crate::memory::{
-    Area, LONGEST_NAME, byte_in, bytes_in, half_in, put_half_in, put_in, put_word_in, word_in,
-};
+use crate::memory::{LONGEST_NAME, Memory};
 use arrayvec::ArrayVec;
 use std::marker::Model;
 use th_rv::{Cause, Instr, decode};
@@ -30,7 +28,7 @@ use th_word::{
 pub(crate) struct Hart {
     pc: u32,
     regs: [u32; 32],
-    areas: Vec<Area>,
+    memory: Memory,
 }
 
 impl Model for Hart {
@@ -38,7 +36,7 @@ impl Model for Hart {
 
     ghost Value = { State };
 
-    ghost view = { λ h. record { pc = h.pc; regs = h.regs; areas = h.areas.items } };
+    ghost view = { λ h. record { pc = h.pc; regs = h.regs; areas = h.memory } };
 }
 
 /// How a run comes to its end by an environment call.
@@ -86,10 +84,10 @@ pub(crate) enum Done {
 
 impl Hart {
     /// The hart with these registers and this memory, at an address.
-    pub(crate) fn new(pc: u32, regs: [u32; 32], areas: Vec<Area>) -> Hart
-        ensures { result ≡ record { pc = pc; regs = regs; areas = areas.items } }
+    pub(crate) fn new(pc: u32, regs: [u32; 32], memory: Memory) -> Hart
+        ensures { result ≡ record { pc = pc; regs = regs; areas = memory } }
     {
-        Hart { pc, regs, areas }
+        Hart { pc, regs, memory }
     }
 
     /// The program counter.
@@ -109,7 +107,24 @@ impl Hart {
         if self.pc % 4 != 0 {
             return Err(Cause::Fetch);
         }
-        match word_in(&self.areas, 1, u64::from(self.pc)) {
+        match self.memory.instr(u64::from(self.pc)) {
+            Some(instr) => Ok(instr),
+            None => self.fetch(),
+        }
+    }
+
+    /// The instruction at the program counter, a multiple of 4, by the word there, or why there is
+    /// none.
+    #[cold]
+    #[inline(never)]
+    #[tactic(auto, unfolding(th_rv::specs::Step::step))]
+    fn fetch(&self) -> Result<Instr, Cause>
+        requires { self.now.pc % 4 ≡ 0 }
+        ensures found { IfOk result (λ instr. step self.now ≡ execute instr self.now) }
+        ensures valid { IfOk result (λ instr. Valid instr) }
+        ensures none { IfErr result (λ cause. step self.now ≡ Traps cause) }
+    {
+        match self.memory.word(1, u64::from(self.pc)) {
             None => Err(Cause::Fetch),
             Some(word) => decode(word).ok_or(Cause::Illegal),
         }
@@ -167,14 +182,14 @@ impl Hart {
         requires { length ≤ LONGEST_NAME }
         ensures { option_map (λ bytes. bytes.items) result ≡ bytes_at length self.now.areas at }
     {
-        bytes_in(&self.areas, at, length)
+        self.memory.bytes(at, length)
     }
 
     /// The word at an address; none where it can't be loaded.
     pub(crate) fn word(&self, at: u32) -> Option<u32>
         ensures { result ≡ number_at 4 4 self.now.areas at }
     {
-        word_in(&self.areas, 4, u64::from(at))
+        self.memory.word(4, u64::from(at))
     }
 
     /// A register.
@@ -244,7 +259,7 @@ impl Hart {
         ensures act { load 1 (cond signed signed_8 whole) self.old rd at ≡ act_of result self.old self.new }
         ensures stays { Stays result self.old self.new }
     {
-        match byte_in(&self.areas, 4, u64::from(at)) {
+        match self.memory.byte(4, u64::from(at)) {
             None => Done::Trapped(Cause::Load),
             Some(byte) => {
                 let value = u32::from(byte);
@@ -262,7 +277,7 @@ impl Hart {
         if at % 2 != 0 {
             return Done::Trapped(Cause::Misaligned);
         }
-        match half_in(&self.areas, 4, u64::from(at)) {
+        match self.memory.half(4, u64::from(at)) {
             None => Done::Trapped(Cause::Load),
             Some(value) => self.write(rd, if signed { extend_16(value) } else { value }),
         }
@@ -277,7 +292,7 @@ impl Hart {
         if at % 4 != 0 {
             return Done::Trapped(Cause::Misaligned);
         }
-        match word_in(&self.areas, 4, u64::from(at)) {
+        match self.memory.word(4, u64::from(at)) {
             None => Done::Trapped(Cause::Load),
             Some(value) => self.write(rd, value),
         }
@@ -290,10 +305,10 @@ impl Hart {
         ensures stays { Stays result self.old self.new }
     {
         let at = u64::from(at);
-        if byte_in(&self.areas, 2, at).is_none() {
+        if self.memory.byte(2, at).is_none() {
             return Done::Trapped(Cause::Store);
         }
-        put_in(&mut self.areas, at, (value % 256) as u8);
+        self.memory.put(at, (value % 256) as u8);
         self.pc = add(self.pc, 4);
         Done::Next
     }
@@ -308,10 +323,10 @@ impl Hart {
             return Done::Trapped(Cause::Misaligned);
         }
         let at = u64::from(at);
-        if half_in(&self.areas, 2, at).is_none() {
+        if self.memory.half(2, at).is_none() {
             return Done::Trapped(Cause::Store);
         }
-        put_half_in(&mut self.areas, at, value);
+        self.memory.put_half(at, value);
         self.pc = add(self.pc, 4);
         Done::Next
     }
@@ -326,10 +341,10 @@ impl Hart {
             return Done::Trapped(Cause::Misaligned);
         }
         let at = u64::from(at);
-        if word_in(&self.areas, 2, at).is_none() {
+        if self.memory.word(2, at).is_none() {
             return Done::Trapped(Cause::Store);
         }
-        put_word_in(&mut self.areas, at, value);
+        self.memory.put_word(at, value);
         self.pc = add(self.pc, 4);
         Done::Next
     }
@@ -517,7 +532,7 @@ impl Hart {
     {
         let at = self.regs[10];
         let length = self.regs[11];
-        if length > 129 || bytes_in(&self.areas, at, length).is_none() {
+        if length > 129 || self.memory.bytes(at, length).is_none() {
             return Done::Trapped(Cause::Ecall);
         }
         self.halt(Halt::Raised { at, length })

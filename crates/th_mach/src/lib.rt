@@ -2,9 +2,11 @@
 #![tactic(auto)]
 
 mod answer;
+mod area;
 mod hart;
 mod machine;
 mod memory;
+mod places;
 mod run;
 
 pub use answer::{Outcome, Step};

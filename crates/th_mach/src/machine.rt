@@ -10,8 +10,9 @@ ghost use Rattle.th_mach.specs.Counted.{fresh, retire, stepped, step_of, given, 
 ghost use Rattle.th_mach.specs.Status.{status_of, later_of};
 
 use crate::answer::Step;
+use crate::area::REGION;
 use crate::hart::{Done, Halt, Hart};
-use crate::memory::{LONGEST_NAME, REGION, areas_of};
+use crate::memory::{LONGEST_NAME, Memory};
 use arrayvec::ArrayVec;
 use std::alloc::{AllocError, Global};
 use std::marker::Model;
@@ -67,9 +68,9 @@ impl Machine {
         requires segments { AreLawful segments.now.list }
         ensures { IfOk result (λ m. m ≡ fresh (loaded segments.now region)) }
     {
-        let areas = areas_of(alloc, segments.list.as_slice(), region)?;
+        let memory = Memory::of(alloc, segments.list.as_slice(), region)?;
         Ok(Machine {
-            hart: Hart::new(segments.entry, first_regs(region), areas),
+            hart: Hart::new(segments.entry, first_regs(region), memory),
             status: Status::Running,
             retired: 0,
         })
