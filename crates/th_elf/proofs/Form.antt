@@ -11,6 +11,7 @@ use Rattle.th_elf.specs.declared.segments.Segments.{Segments}
 use Rattle.th_elf.specs.Written.{half_bytes, words_bytes, file_header, program_header, content, written}
 use Rattle.th_elf.specs.declared.header.Header.{Header}
 use Rattle.th_elf.specs.Loadable.{header_at, is_loaded, is_placed, are_all_apart, loaded_headers, first_failing, segments_of, segment_of, meets}
+use Rattle.th_elf.specs.ReadBack.{one_segment, IsReadBack}
 use Rattle.th_elf.proofs.Judged.{none_failing}
 
 -- a file in the written form, with so many bytes of content said in its program header
@@ -57,10 +58,6 @@ met n c len some fits field.Machine = refl
 met n c len some fits field.Flags = refl
 met n c len some fits field.Entries = le-leb _ _ (omega (arith, length_is n c))
 met n c len some fits field.Segment = lawful n c len some fits
-
--- the segment that some bytes are loaded as: at 0x00010000, fetched from and loaded from
-abbrev pub one_segment : List ℕ → Segments
-one_segment c = record { entry = 0x00010000; list = record { at = 0x00010000; flags = 5; size = length c; bytes = c } ∷ [] }
 
 segment_is : (n : ℕ) (c : List ℕ) → length c ≡ n → segment_of (form n c) (header n) ≡ record { at = 0x00010000; flags = 5; size = length c; bytes = c }
 unfolding segment_of
@@ -128,6 +125,12 @@ pub written_segments : (image : Image) → image.entry ≡ 0x00010000 → 0 < le
 unfolding written
 written_segments image at some fits =
     ap (λ e. segments_of (file_header e ++ program_header (length (content image)) ++ content image)) at ∙ form_segments (content image) some fits
+
+-- the file that is written is read back
+pub read_back : (image : Image) (file : List ℕ) → file ≡ written image → image.entry ≡ 0x00010000 → 4 * length image.code + length image.tables ≤ 134152192 → IsReadBack image file
+read_back image file is at fits = λ some.
+    let small : length (content image) ≤ 134152192 = omega (arith, length_content image, fits) in
+    (ap first_failing is ∙ written_loadable image at some small, ap segments_of is ∙ written_segments image at some small)
 
 -- how many bytes the file of an image has
 pub length_written : (image : Image) → length (written image) ≡ 84 + (4 * length image.code + length image.tables)

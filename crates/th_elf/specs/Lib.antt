@@ -1,6 +1,7 @@
 pub mod Written
 pub mod Named
 pub mod Loadable
+pub mod ReadBack
 pub mod Rising
 pub mod Lawful
 pub mod Run

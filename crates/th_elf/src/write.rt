@@ -1,5 +1,6 @@
 //! The file that an image is written as.
 ghost use Rattle.std.specs.Prelude.{◌≡◌, ◌+◌, ◌*◌, ◌≤◌, ◌++◌, length, IfOk, OnOk, flat_map};
+ghost use Rattle.th_elf.specs.ReadBack.{IsReadBack};
 ghost use Rattle.th_elf.specs.Written.{half_bytes, words_bytes, written};
 
 use crate::image::Image;
@@ -35,11 +36,12 @@ fn put_words(file: &mut Vec<u8>, words: &[u32]) -> Result<(), AllocError>
 }
 
 /// The bytes of the file that an image is written as (docs/FORMATS.md): a header, one program header, the code words,
-/// the tables. The only error is want of memory.
+/// the tables. `read_elf` reads it back as one segment. The only error is want of memory.
 pub fn write_elf(alloc: Global, image: &Image) -> Result<Vec<u8>, AllocError>
     requires entry { image.now.entry ≡ 0x00010000 }
     requires size { 4 * length image.now.code + length image.now.tables ≤ 134152192 }
-    ensures { IfOk result (λ file. file.items ≡ written image.now) }
+    ensures form { IfOk result (λ file. file.items ≡ written image.now) }
+    ensures read_back { IfOk result (λ file. IsReadBack image.now file.items) }
 {
     let code = image.code.as_slice();
     let tables = image.tables.as_slice();

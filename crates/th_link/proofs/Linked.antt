@@ -21,7 +21,8 @@ use Rattle.th_elf.specs.declared.image.Map.{Map}
 use Rattle.th_elf.specs.Written.{words_bytes, content, written}
 use Rattle.th_elf.specs.Loadable.{segments_of}
 use Rattle.th_elf.specs.Run.{loaded, region, first_regs, start, names_of, entry_of, Machine, Retired, Retires, running}
-use Rattle.th_elf.proofs.Form.{one_segment, written_segments}
+use Rattle.th_elf.specs.ReadBack.{one_segment}
+use Rattle.th_elf.proofs.Form.{written_segments}
 use Rattle.th_link.specs.Agrees.{AreBytes, loaded_image, image_run, IsCodeAddress, Agrees}
 use Rattle.th_link.specs.Ends.{EndsInTime}
 use Rattle.th_link.specs.Puts.{PutsBytes, put_numbers, puts_code, code_words, puts_image, IsImageOf, IsLawful}

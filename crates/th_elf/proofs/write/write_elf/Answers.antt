@@ -1,8 +1,10 @@
-use Rattle.th_elf.proofs.Form.{put_together}
+use Rattle.std.proofs.Common.{◌≡◌}
+use Rattle.th_elf.specs.Written.{written}
+use Rattle.th_elf.proofs.Form.{put_together, read_back}
 use Rattle.th_elf.proofs.write.write_elf.Goals as goal
 
-pub returns : goal.returns
-returns c =
+pub returns-clause-form : goal.returns-clause-form
+returns-clause-form c =
     put_together c.args.image.now _ _ _ _ _ _ _ _ _ _
     c.as_slice-code.ensures
     c.as_slice-tables.ensures
@@ -14,3 +16,6 @@ returns c =
     c.in_ok-put_words-2.ensures
     c.in_ok-put_words-3.ensures
     c.in_ok-extend_from_slice-2.ensures.items
+
+pub returns-clause-read_back : goal.returns-clause-read_back
+returns-clause-read_back c = read_back c.args.image.now _ (returns-clause-form c) c.requires.entry c.requires.size
