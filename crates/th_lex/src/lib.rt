@@ -1,2 +1,7 @@
-//! Not written yet.
+//! Cutting a text into tokens.
 #![tactic(auto)]
+
+mod classes;
+mod front;
+mod symbols;
+mod words;
