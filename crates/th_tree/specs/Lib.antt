@@ -3,3 +3,8 @@ pub mod Cut
 pub mod Spans
 pub mod Trees
 pub mod View
+pub mod Forms
+pub mod Grammar
+pub mod Declarations
+pub mod Numbered
+pub mod Verdict

@@ -8,9 +8,16 @@ mod names;
 mod tokens;
 mod tree;
 
-pub use decl::{ClassDecl, ClassHead, ClauseTree, ExceptionDecl, FieldAssign, InitHead, InitTree, Interface, InterfaceClass, InterfaceItem, MethodTree, Module, ModuleItem, Routine, RoutineHead, SigTree, SuperCall, TypeDecl};
+pub use decl::{
+    ClassDecl, ClassHead, ClauseTree, ExceptionDecl, FieldAssign, InitHead, InitTree, Interface,
+    InterfaceClass, InterfaceItem, MethodTree, Module, ModuleItem, Routine, RoutineHead, SigTree,
+    SuperCall, TypeDecl,
+};
 pub use lexeme::{Lexeme, Mark};
 pub use lists::{ByteList, NumberList};
 pub use names::Name;
 pub use tokens::{Reserved, Sym, Token, TokenKind, Tokens};
-pub use tree::{BinaryOp, Body, ElseTree, ExcTree, Expr, ExprList, Formal, Ident, NamedTree, RefTree, Stmt, TypeList, TypeTree, WhenList};
+pub use tree::{
+    BinaryOp, Body, ElseTree, ExcTree, Expr, ExprList, Formal, Ident, NamedTree, RefTree, Stmt,
+    TypeList, TypeTree, WhenList,
+};
