@@ -35,7 +35,7 @@ pub data OneOf {A : Type 0} (table : Mark → Option A) : A → List Lexeme → 
 
 -- a word of the one, and then of the other, which may depend on the value of the one
 pub data Then {A B : Type 0} (L : A → List Lexeme → Type 0) (K : A → B → List Lexeme → Type 0) : B → List Lexeme → Type 0 where
-  then : (a : A) (b : B) (us vs : List Lexeme) → L a us → K a b vs → Then L K b (us ++ vs)
+  in_turn : (a : A) (b : B) (us vs : List Lexeme) → L a us → K a b vs → Then L K b (us ++ vs)
 
 -- a word of the one or of the other
 pub data Either {A : Type 0} (L K : A → List Lexeme → Type 0) : A → List Lexeme → Type 0 where

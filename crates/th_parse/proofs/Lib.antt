@@ -1,0 +1,5 @@
+pub mod Good
+pub mod Steady
+pub mod Sets
+pub mod Marks
+pub mod Law

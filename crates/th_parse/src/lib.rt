@@ -1,0 +1,2 @@
+//! Reading statements, expressions and types token by token.
+#![tactic(auto)]
