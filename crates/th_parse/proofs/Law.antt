@@ -42,10 +42,10 @@ then_on g k m m2 ts xs rest a r e h z (stops ys more d i) =
       (subst (λ q. bind q k ≡ Bad (t ∷ zs)) (sym (again_on g m a xs ys rest more t p zs h d c l1)) (i t p zs c l2)))
 
 -- what the second owes where the first read a from xs
-abbrev Second : {A B : Type 0} → (A → List Lexeme → Type 0) → (A → P B) → (A → P B) → ℕ → List Lexeme → Type 0
+abbrev pub Second : {A B : Type 0} → (A → List Lexeme → Type 0) → (A → P B) → (A → P B) → ℕ → List Lexeme → Type 0
 Second {A = A} L k f m ts = (a : A) (xs rest : List Lexeme) → ts ≡ xs ++ rest → L a xs → (m2 : ℕ) × (m ≤ length xs + m2) × Steady (k a) m2 rest (f a rest)
 
-steady_then : {A B : Type 0} (L : A → List Lexeme → Type 0) (m : ℕ) (ts : List Lexeme) (g : P A) (r : Res A) (k f : A → P B) → Good L ts r → Steady g m ts r → Second L k f m ts
+pub steady_then : {A B : Type 0} (L : A → List Lexeme → Type 0) (m : ℕ) (ts : List Lexeme) (g : P A) (r : Res A) (k f : A → P B) → Good L ts r → Steady g m ts r → Second L k f m ts
     → Steady (λ l. bind (g l) k) m ts (bind r f)
 steady_then L m ts g (Got a rest) k f (goods a1 ys rest1 d w) (gots a2 xs rest2 e h) i =
     let same : xs ≡ ys = append_cancel_right xs ys rest (sym e ∙ d) in
@@ -150,16 +150,16 @@ out_first : (b : Bool) (c : ℕ) (m1 m2 : List ℕ) → member c (joined_if b m2
 out_first true c m1 m2 o e = out_right c m2 m1 o
 out_first false c m1 m2 o e = absurd (cc)
 
-front_le : (xs ys : List Lexeme) (n : ℕ) → length (xs ++ ys) ≤ n → length xs ≤ n
+pub front_le : (xs ys : List Lexeme) (n : ℕ) → length (xs ++ ys) ≤ n → length xs ≤ n
 front_le xs ys n l = omega (arith, length-append xs ys)
 
-behind_le : (xs ys : List Lexeme) (n : ℕ) → length (xs ++ ys) ≤ n → length ys ≤ n
+pub behind_le : (xs ys : List Lexeme) (n : ℕ) → length (xs ++ ys) ≤ n → length ys ≤ n
 behind_le xs ys n l = omega (arith, length-append xs ys)
 
-rest_le : (n : ℕ) (ts xs rest : List Lexeme) → length ts ≤ n → ts ≡ xs ++ rest → length rest ≤ n
+pub rest_le : (n : ℕ) (ts xs rest : List Lexeme) → length ts ≤ n → ts ≡ xs ++ rest → length rest ≤ n
 rest_le n ts xs rest l e = let d : length (xs ++ rest) ≤ n = subst (λ q. length q ≤ n) e l in omega (arith, length-append xs rest)
 
-bind_got : {A B : Type 0} (r : Res A) (a : A) (ts : List Lexeme) (k : A → P B) (s : Res B) → r ≡ Got a ts → k a ts ≡ s → bind r k ≡ s
+pub bind_got : {A B : Type 0} (r : Res A) (a : A) (ts : List Lexeme) (k : A → P B) (s : Res B) → r ≡ Got a ts → k a ts ≡ s → bind r k ≡ s
 bind_got r a ts k s e d = ap (λ q. bind q k) e ∙ d
 
 pub law_then : {A B : Type 0} {L : A → List Lexeme → Type 0} {K : A → B → List Lexeme → Type 0} {p : ℕ → P A} {q : A → ℕ → P B} {f1 f2 : List ℕ} {n1 n2 : Bool} {m1 m2 : List ℕ}

@@ -3,3 +3,5 @@ pub mod Steady
 pub mod Sets
 pub mod Marks
 pub mod Law
+pub mod Choice
+pub mod Repeat

@@ -166,6 +166,10 @@ lookup table (Some m) = table m
 abbrev pub one_of_table : {A : Type 0} → (Mark → Option A) → P A
 one_of_table table ts = on_some (lookup table (peek ts)) (λ a. bind (take_one ts) (λ t ts1. Got a ts1)) (Bad ts)
 
+-- whether the one or the other is read is decided by the test; each is read only where its room allows it
+abbrev pub choose : {A : Type 0} → (Option Mark → Bool) → Bool → Bool → (ℕ → P A) → (ℕ → P A) → ℕ → P A
+choose test g1 g2 p q n ts = if test (peek ts) then (if g1 then p n ts else Bad ts) else (if g2 then q n ts else Bad ts)
+
 -- items as long as the test holds of the next mark, then the last; at most k items, each with lists up to n
 abbrev pub many : {A B : Type 0} → (Option Mark → Bool) → (ℕ → P A) → (A → B → B) → (ℕ → P B) → ℕ → ℕ → P B
 many test item more last zero n ts = last n ts
