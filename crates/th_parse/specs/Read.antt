@@ -189,3 +189,65 @@ abbrev pub steps : {A : Type 0} → (Option Mark → Bool) → (A → Bool) → 
 steps test goes step zero a n ts = Got a ts
 steps test goes step (suc k) a n ts =
     if test (peek ts) then (if goes a then bind (step a n ts) (λ b ts1. steps test goes step k b n ts1) else Bad ts) else Got a ts
+
+-- The readings below take a bound on the lengths of lists; they are put together as the grammar's forms are.
+
+-- the one, and then the other
+abbrev pub seq : {A B : Type 0} → (ℕ → P A) → (A → ℕ → P B) → ℕ → P B
+seq p q n ts = bind (p n ts) (λ a ts1. q a n ts1)
+
+-- nothing; the value
+abbrev pub ret : {A : Type 0} → A → ℕ → P A
+ret a n ts = Got a ts
+
+-- the mark
+abbrev pub one : Mark → ℕ → P ℕ
+one c n ts = mark c ts
+
+-- the mark, and then the other
+abbrev pub after : {B : Type 0} → Mark → (ℕ → P B) → ℕ → P B
+after c q = seq (one c) (λ p. q)
+
+-- what stands between two marks
+abbrev pub between : {A : Type 0} → Mark → Mark → (ℕ → P A) → ℕ → P A
+between c d p = after c (seq p (λ a. after d (ret a)))
+
+-- the one where the mark is next, else the other
+abbrev pub either : {A : Type 0} → Mark → (ℕ → P A) → (ℕ → P A) → ℕ → P A
+either c p q = choose (in_set (code c ∷ [])) true true p q
+
+-- the same, where the one is read only if there is room
+abbrev pub either_if : {A : Type 0} → Mark → Bool → (ℕ → P A) → (ℕ → P A) → ℕ → P A
+either_if c g p q = choose (in_set (code c ∷ [])) g true p q
+
+-- the same, where the other is read only if there is room
+abbrev pub or_if : {A : Type 0} → Mark → Bool → (ℕ → P A) → (ℕ → P A) → ℕ → P A
+or_if c g p q = choose (in_set (code c ∷ [])) true g p q
+
+-- what begins with the mark, where it is next
+abbrev pub maybe : {A : Type 0} → Mark → (ℕ → P A) → ℕ → P (Option A)
+maybe c p = either c (seq p (λ a. ret (Some a))) (ret None)
+
+-- items with the mark between them
+abbrev pub list_of : {A B : Type 0} → Mark → (ℕ → P A) → (A → B → B) → B → ℕ → P B
+list_of c item more none n = listed c item more none n n
+
+-- items that begin with one of the marks, and then the last
+abbrev pub any_of : {A B : Type 0} → List ℕ → (ℕ → P A) → (A → B → B) → (ℕ → P B) → ℕ → P B
+any_of f item more last n = many (in_set f) item more last n n
+
+abbrev pub name_in : Option Mark → Option ℕ
+name_in (Some (Name n)) = Some n
+name_in _ = None
+
+abbrev pub number_in : Option Mark → Option ℕ
+number_in (Some (Number n)) = Some n
+number_in _ = None
+
+abbrev pub text_in : Option Mark → Option ℕ
+text_in (Some (Text n)) = Some n
+text_in _ = None
+
+abbrev pub has : {A : Type 0} → Option A → Bool
+has (Some a) = true
+has None = false
