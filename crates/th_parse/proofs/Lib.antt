@@ -5,3 +5,5 @@ pub mod Marks
 pub mod Law
 pub mod Choice
 pub mod Repeat
+pub mod Words
+pub mod TypeLaws
