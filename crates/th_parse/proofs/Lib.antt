@@ -7,3 +7,4 @@ pub mod Choice
 pub mod Repeat
 pub mod Words
 pub mod TypeLaws
+pub mod ExprLaws

@@ -49,6 +49,10 @@ abbrev pub read_named : ℕ → ℕ → P NamedSyn
 read_named zero n ts = Bad ts
 read_named (suc r) n ts = named_type_of r (read_type r) n ts
 
+-- whether a value is low enough to be a part of one of the height r + 1
+abbrev pub goes_on : ℕ → Found → Bool
+goes_on r a = nat_le a.height r
+
 -- the forms up to the height r + 1, where `sub` reads those up to r
 module _ (r : ℕ) (sub : Form → ℕ → P Found) where
   -- arguments after the `(`
@@ -114,13 +118,9 @@ module _ (r : ℕ) (sub : Form → ℕ → P Found) where
   suffix_of a = either (Symbol Dot) (after (Symbol Dot) (member_of a))
       (seq (between (Symbol OpenSquare) (Symbol CloseSquare) (sub Expr)) (λ b. ret (found (element_expr a.start a.tree b.tree) (suc (max a.height b.height)) a.start)))
 
-  -- whether a value is low enough to be a part
-  abbrev pub goes_on : Found → Bool
-  goes_on a = nat_le a.height r
-
   -- the suffixes after an atom
   abbrev pub suffixes : Found → ℕ → P Found
-  suffixes a n ts = steps (in_set (code (Symbol Dot) ∷ code (Symbol OpenSquare) ∷ [])) goes_on suffix_of (suc r) a n ts
+  suffixes a n ts = steps (in_set (code (Symbol Dot) ∷ code (Symbol OpenSquare) ∷ [])) (goes_on r) suffix_of (suc r) a n ts
 
   abbrev pub post_of : ℕ → P Found
   post_of = seq atom_of suffixes
@@ -130,7 +130,7 @@ module _ (r : ℕ) (sub : Form → ℕ → P Found) where
 
   -- further operands of a chain
   abbrev pub chain : Form → Form → Found → ℕ → P Found
-  chain F G a n ts = steps (λ o. has (lookup (operator_of F) o)) goes_on (operand_of F G) (suc r) a n ts
+  chain F G a n ts = steps (λ o. has (lookup (operator_of F) o)) (goes_on r) (operand_of F G) (suc r) a n ts
 
   abbrev pub unary_of : ℕ → P Found
   unary_of = either_if (Symbol Minus) (nat_lt 0 r) (seq (one (Symbol Minus)) (λ p. seq (sub Unary) (λ a. ret (found (negative_expr p a.tree) (suc a.height) p)))) post_of
@@ -144,7 +144,7 @@ module _ (r : ℕ) (sub : Form → ℕ → P Found) where
   -- a comparison with a sum or none, after a sum
   abbrev pub comparison : Found → ℕ → P Found
   comparison a n ts =
-      if has (lookup (operator_of Rel) (peek ts)) then (if goes_on a then operand_of Rel Sum a n ts else Bad ts) else Got a ts
+      if has (lookup (operator_of Rel) (peek ts)) then (if goes_on r a then operand_of Rel Sum a n ts else Bad ts) else Got a ts
 
   abbrev pub rel_of : ℕ → P Found
   rel_of = seq sum_of comparison
