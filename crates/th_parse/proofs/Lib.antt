@@ -8,3 +8,4 @@ pub mod Repeat
 pub mod Words
 pub mod TypeLaws
 pub mod ExprLaws
+pub mod StmtLaws
