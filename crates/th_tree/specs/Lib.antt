@@ -8,3 +8,4 @@ pub mod Grammar
 pub mod Declarations
 pub mod Numbered
 pub mod Verdict
+pub mod Tables

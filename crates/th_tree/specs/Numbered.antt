@@ -1,6 +1,7 @@
 -- The lexemes of tokens: names and literals by their numbers in a table.
 use Rattle.std.specs.Prelude.{◌≡◌, ℕ, zero, suc, ◌+◌, Bool, true, false, nat_eq, List, [], ◌∷◌, ◌++◌, map, drop, length, if◌then◌else◌}
 use Rattle.std.specs.Str.{bytes_eq}
+use Rattle.std.specs.List.{list_any, position_or_len}
 use Rattle.th_tree.specs.declared.tokens.TokenKind.{TokenKind}
 use Rattle.th_tree.specs.declared.tokens.TokenKind.TheVariants as kinds
 use Rattle.th_tree.specs.declared.tokens.Token.{Token}
@@ -11,8 +12,11 @@ use Rattle.th_tree.specs.Spans.{bytes_of}
 
 -- the place of the bytes in the table; its length where they aren't there
 abbrev pub number_of : List (List ℕ) → List ℕ → ℕ
-number_of [] bs = 0
-number_of (n ∷ ns) bs = if bytes_eq n bs then 0 else suc (number_of ns bs)
+number_of table bs = position_or_len (bytes_eq bs) table
+
+-- the table with the bytes at its end, unless they are there already
+abbrev pub with_name : List (List ℕ) → List ℕ → List (List ℕ)
+with_name table bs = if list_any (bytes_eq bs) table then table else table ++ bs ∷ []
 
 -- the bytes that the inside of a literal with its closing quote stands for: an escape is `\n` for a line feed, and else the byte after the backslash
 abbrev pub unescaped : List ℕ → List ℕ

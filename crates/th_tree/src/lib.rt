@@ -4,6 +4,7 @@
 mod decl;
 mod lexeme;
 mod lists;
+mod name_table;
 mod names;
 mod tokens;
 mod tree;
@@ -15,6 +16,7 @@ pub use decl::{
 };
 pub use lexeme::{Lexeme, Mark};
 pub use lists::{ByteList, NumberList};
+pub use name_table::NameTable;
 pub use names::Name;
 pub use tokens::{Reserved, Sym, Token, TokenKind, Tokens};
 pub use tree::{
