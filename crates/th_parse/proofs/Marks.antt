@@ -1,5 +1,5 @@
 -- A mark's number tells the mark, of words and symbols.
-use Rattle.std.proofs.Common.{◌≡◌, ℕ, zero, suc, Bool, true, false, nat_eq, List, [], ◌∷◌, ◌++◌, Option, Some, None, refl, sym, ◌∙◌, subst, ap, if◌then◌else◌, eqb-true, eq-eqb}
+use Rattle.std.proofs.Common.{◌≡◌, ℕ, zero, suc, Bool, true, false, nat_eq, List, [], ◌∷◌, ◌++◌, Option, Some, None, refl, sym, ◌∙◌, subst, ap, if◌then◌else◌, eqb-true, eq-eqb, IsTrue, ◌↔◌}
 use Rattle.th_tree.specs.declared.tokens.Reserved.{Reserved}
 use Rattle.th_tree.specs.declared.tokens.Reserved.TheVariants.{KeyModule, KeyInterface, KeyImplements, KeyUses, KeyType, KeyClass, KeyFor, KeyInherits, KeyWhere, KeyHas, KeyException, KeyRoutine, KeyIter, KeyInit, KeyHidden, KeyField, KeyReturns, KeyYields, KeySignals, KeyVar, KeyIf, KeyThen, KeyElseif, KeyElse, KeyEnd, KeyWhile, KeyDo, KeyIn, KeyBreak, KeyReturn, KeyYield, KeyRaise, KeyBegin, KeyExcept, KeyWhen, KeyNew, KeyArray, KeyInt, KeyBool, KeyTrue, KeyFalse, KeySelf, KeySuper, KeyOr, KeyAnd, KeyNot, KeyLength, KeyPutByte, KeyPutInt, KeyGetByte, KeyOverflow, KeyZeroDivide, KeyBounds, KeyEndOfInput, KeyString, KeyPutString}
 use Rattle.th_tree.specs.declared.tokens.Sym.{Sym}
@@ -151,3 +151,15 @@ tells_mark c m i e = same_mark m c i (eqb-true (code m) (code c) (one_member (na
 pub tells : (c : Mark) → Exact c → (ts : List Lexeme) → is_mark c (peek ts) ≡ true → Headed c ts
 tells c i [] e = absurd (none_code c i (eqb-true 3 (code c) (one_member (nat_eq 3 (code c)) e)))
 tells c i (t ∷ ts) e = record { place = t.at; rest = ts; is = ap (λ m. lex m t.at ∷ ts) (tells_mark c t.mark i e) }
+
+-- a test of two words is that of their numbers
+pub word_test : (w v : Reserved) (r : Bool) → IsTrue r ↔ (w ≡ v) → is_mark (Word v) (Some (Word w)) ≡ r
+word_test w v true h = let e : w ≡ v = h.0 refl in rw e (is_mark_same (Word v))
+word_test w v false h = no_test (is_mark (Word v) (Some (Word w))) (λ e. no_flag (h.1 (same_inside w v (tells_mark (Word v) (Word w) tt e)))) where
+  no_flag : IsTrue false → ⊥
+  no_flag e = cc
+  same_inside : (w v : Reserved) → Word w ≡ Word v → w ≡ v
+  same_inside w v e = cc
+  no_test : (b : Bool) → (b ≡ true → ⊥) → b ≡ false
+  no_test true k = absurd (k refl)
+  no_test false k = refl

@@ -1,2 +1,4 @@
 pub mod Read
 pub mod Parse
+pub mod Gives
+pub mod Lists

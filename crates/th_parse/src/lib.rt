@@ -1,2 +1,5 @@
-//! Reading statements, expressions and types token by token.
+//! Reading statements, expressions and types lexeme by lexeme.
 #![tactic(auto)]
+
+mod step;
+mod types;

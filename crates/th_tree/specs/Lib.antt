@@ -9,3 +9,4 @@ pub mod Declarations
 pub mod Numbered
 pub mod Verdict
 pub mod Tables
+pub mod Onto

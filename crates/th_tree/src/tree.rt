@@ -2,6 +2,11 @@
 //!
 //! Each tree has one variant for each alternative of its form, with the byte of the text where it starts, and then its
 //! parts in the grammar's order. A list is empty, or an item and the rest; it is made, walked and dropped by loops.
+ghost use Rattle.std.specs.Prelude.{◌≡◌};
+ghost use Rattle.th_tree.specs.View.{types_of, exprs_of, body_of, else_of, whens_of};
+ghost use Rattle.th_tree.specs.Onto.{types_onto, exprs_onto, stmts_onto, elses_onto, whens_onto};
+
+use std::mem;
 
 /// A name where it is written: its number in the table of names, and the byte where it starts.
 #[derive(Clone, Copy, Debug, PartialEq, Eq)]
@@ -273,6 +278,97 @@ impl Drop for WhenList {
             match self {
                 WhenList::NoWhen => return,
                 WhenList::MoreWhen(_, _, _, _, rest) => self = Box::into_inner(rest),
+            }
+        }
+    }
+}
+
+impl TypeList {
+    /// These types the other way round, and then those of `end`. It takes no memory.
+    pub fn turned(mut self, end: TypeList) -> TypeList
+        ensures { types_of result ≡ types_onto (types_of self) (types_of end) }
+    {
+        let mut done = end;
+        loop {
+            match self {
+                TypeList::NoType => return done,
+                TypeList::MoreType(first, mut others) => {
+                    self = mem::replace(&mut *others, done);
+                    done = TypeList::MoreType(first, others);
+                }
+            }
+        }
+    }
+}
+
+impl ExprList {
+    /// These expressions the other way round, and then those of `end`. It takes no memory.
+    pub fn turned(mut self, end: ExprList) -> ExprList
+        ensures { exprs_of result ≡ exprs_onto (exprs_of self) (exprs_of end) }
+    {
+        let mut done = end;
+        loop {
+            match self {
+                ExprList::NoExpr => return done,
+                ExprList::MoreExpr(first, mut others) => {
+                    self = mem::replace(&mut *others, done);
+                    done = ExprList::MoreExpr(first, others);
+                }
+            }
+        }
+    }
+}
+
+impl Body {
+    /// These statements the other way round, and then those of `end`. It takes no memory.
+    pub fn turned(mut self, end: Body) -> Body
+        ensures { body_of result ≡ stmts_onto (body_of self) (body_of end) }
+    {
+        let mut done = end;
+        loop {
+            match self {
+                Body::NoStmt => return done,
+                Body::MoreStmt(first, mut others) => {
+                    self = mem::replace(&mut *others, done);
+                    done = Body::MoreStmt(first, others);
+                }
+            }
+        }
+    }
+}
+
+impl ElseTree {
+    /// The `elseif`s the other way round, and then `end`; an `else` among them is dropped. It takes no memory.
+    pub fn turned(mut self, end: ElseTree) -> ElseTree
+        ensures { else_of result ≡ elses_onto (else_of self) (else_of end) }
+    {
+        let mut done = end;
+        loop {
+            match self {
+                ElseTree::NoElse => return done,
+                ElseTree::Else(_) => return done,
+                ElseTree::Elseif(at, test, body, mut others) => {
+                    self = mem::replace(&mut *others, done);
+                    done = ElseTree::Elseif(at, test, body, others);
+                }
+            }
+        }
+    }
+}
+
+impl WhenList {
+    /// These handlers the other way round, and then those of `end`. It takes no memory.
+    pub fn turned(mut self, end: WhenList) -> WhenList
+        ensures { whens_of result ≡ whens_onto (whens_of self) (whens_of end) }
+    {
+        let mut done = end;
+        loop {
+            match self {
+                WhenList::NoWhen => return done,
+                WhenList::MoreWhen(at, exc, variable, body, mut others) => {
+                    self = mem::replace(&mut *others, done);
+                    done = WhenList::MoreWhen(at, exc, variable, body, others);
+                }
             }
         }
     }
