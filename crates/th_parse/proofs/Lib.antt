@@ -9,3 +9,5 @@ pub mod Words
 pub mod TypeLaws
 pub mod ExprLaws
 pub mod StmtLaws
+pub mod Loops
+pub mod Rooms

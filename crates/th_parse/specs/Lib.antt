@@ -2,3 +2,4 @@ pub mod Read
 pub mod Parse
 pub mod Gives
 pub mod Lists
+pub mod Founds

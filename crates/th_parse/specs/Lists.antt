@@ -9,8 +9,3 @@ use Rattle.th_parse.specs.Parse.{read_type}
 -- types with commas between them
 abbrev pub type_list : ℕ → ℕ → P TypeSyns
 type_list r n ts = list_of (Symbol Comma) (read_type r) more_types no_type n ts
-
--- the first list the other way round, before the second
-abbrev pub types_onto : TypeSyns → TypeSyns → TypeSyns
-types_onto no_type done = done
-types_onto (more_types t ts) done = types_onto ts (more_types t done)

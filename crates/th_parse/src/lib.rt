@@ -1,5 +1,6 @@
 //! Reading statements, expressions and types lexeme by lexeme.
 #![tactic(auto)]
 
+mod exprs;
 mod step;
 mod types;

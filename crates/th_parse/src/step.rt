@@ -1,5 +1,5 @@
 //! Reading one lexeme.
-ghost use Rattle.std.specs.Prelude.{◌≡◌, ◌↔◌, IsTrue};
+ghost use Rattle.std.specs.Prelude.{◌≡◌, ◌↔◌, IsTrue, Some};
 ghost use Rattle.th_tree.specs.declared.lexeme.Mark.TheVariants.{Word, Symbol};
 ghost use Rattle.th_parse.specs.Read.{peek, is_mark, mark};
 ghost use Rattle.th_parse.specs.Parse.{read_name, read_ref};
@@ -41,13 +41,22 @@ fn same_word(a: Reserved, b: Reserved) -> bool
     a == b
 }
 
+fn is_word(mark: Mark, word: Reserved) -> bool
+    ensures { is_mark (Word word) (Some mark) ≡ result }
+{
+    match mark {
+        Mark::Word(next) => same_word(next, word),
+        _ => false,
+    }
+}
+
 /// Whether the word is next.
 pub fn at_word(tokens: &[Lexeme], word: Reserved) -> bool
     ensures { is_mark (Word word) (peek tokens.now) ≡ result }
 {
     match tokens {
-        [Lexeme { mark: Mark::Word(next), .. }, ..] => same_word(*next, word),
-        _ => false,
+        [token, ..] => is_word(token.mark, word),
+        [] => false,
     }
 }
 

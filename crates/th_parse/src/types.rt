@@ -6,10 +6,9 @@ ghost use Rattle.th_parse.specs.declared.step.Stop.TheVariants.{Memory};
 ghost use Rattle.th_parse.specs.Read.{list_of};
 ghost use Rattle.th_parse.specs.Parse.{read_type, read_named, type_args, named_type_of, array_type_of, type_of as read_type_of};
 ghost use Rattle.th_parse.specs.Gives.{Gives};
-ghost use Rattle.th_parse.specs.Lists.{types_onto, type_list};
+ghost use Rattle.th_parse.specs.Lists.{type_list};
 
 use crate::step::{Reader, Step, Stop, at_symbol, at_word, reference, symbol, word};
-use std::mem;
 use th_tree::{Lexeme, NamedTree, Reserved, Sym, TypeList, TypeTree};
 
 /// A type and its height.
@@ -48,19 +47,6 @@ fn more_first<'a>(reader: Reader, tree: TypeTree, trees: TypeList) -> Result<Typ
         Ok(rest) => Ok(TypeList::MoreType(tree, rest)),
         Err(_) => Err(Stop::Memory),
     }
-}
-
-/// The list the other way round.
-fn turned(list: TypeList) -> TypeList
-    ensures { types_of result ≡ types_onto (types_of list) no_type }
-{
-    let mut left = list;
-    let mut done = TypeList::NoType;
-    while let TypeList::MoreType(first, mut others) = left {
-        left = mem::replace(&mut *others, done);
-        done = TypeList::MoreType(first, others);
-    }
-    done
 }
 
 impl Reader {
@@ -192,7 +178,7 @@ impl Reader {
             height = larger(height, one.height);
             back = more_first(self, one.tree, back)?;
             if !at_symbol(after, Sym::Comma) {
-                return Ok((ReadTypes { trees: turned(back), height }, after));
+                return Ok((ReadTypes { trees: back.turned(TypeList::NoType), height }, after));
             }
             let (_, next) = symbol(after, Sym::Comma)?;
             rest = next;
@@ -200,6 +186,6 @@ impl Reader {
         let (one, after) = self.type_tree(r, rest)?;
         let height = larger(height, one.height);
         let back = more_first(self, one.tree, back)?;
-        Ok((ReadTypes { trees: turned(back), height }, after))
+        Ok((ReadTypes { trees: back.turned(TypeList::NoType), height }, after))
     }
 }

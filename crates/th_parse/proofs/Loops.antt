@@ -1,0 +1,63 @@
+-- The turns of the code's loops over lists.
+use Rattle.std.proofs.Common.{◌≡◌, ℕ, zero, suc, ◌<◌, ◌+◌, ◌-◌, Bool, true, false, List, [], ◌∷◌, refl, sym, ◌∙◌, subst, ap, arith, if◌then◌else◌}
+use Rattle.th_tree.specs.declared.lexeme.Mark.{Mark}
+use Rattle.th_tree.specs.declared.lexeme.Lexeme.{Lexeme}
+use Rattle.th_parse.specs.declared.step.Stop.{Stop}
+use Rattle.th_parse.specs.declared.step.Stop.TheVariants.{Memory, Wrong}
+use Rattle.th_parse.specs.Read.{Res, Got, Bad, P, bind, peek, take_one, in_set, is_mark, mark, listed, many}
+use Rattle.th_parse.specs.Gives.{Fails}
+
+-- what was read before, back to front, before what is read
+abbrev pub with_back : {B : Type 0} → (B → B → B) → B → Res B → Res B
+with_back onto b x = bind x (λ bs rest. Got (onto b bs) rest)
+
+after_mark : (c : Mark) (ts next : List Lexeme) (p : ℕ) → is_mark c (peek ts) ≡ true → mark c ts ≡ Got p next → (t : Lexeme) × (ts ≡ t ∷ next)
+after_mark c ts next p i e = split ts (sym (rw i refl) ∙ e) where
+  split : (ts : List Lexeme) → bind (take_one ts) (λ t ts1. Got t.at ts1) ≡ Got p next → (t : Lexeme) × (ts ≡ t ∷ next)
+  split [] e = absurd (cc)
+  split (t ∷ us) e = let d : us ≡ next = rest_same us e in (t, ap (λ y. t ∷ y) d) where
+    rest_same : (us : List Lexeme) → Got t.at us ≡ Got p next → us ≡ next
+    rest_same us e = cc
+
+pub with_none : {B : Type 0} (onto : B → B → B) (none : B) → ((b : B) → onto none b ≡ b) → (x : Res B) → x ≡ with_back onto none x
+with_none onto none l (Got b rest) = ap (λ y. Got y rest) (sym (l b))
+with_none onto none l (Bad rest) = refl
+
+module _ {A B : Type 0} (c : Mark) (item : ℕ → P A) (more : A → B → B) (none : B) (onto : B → B → B) (law : (a : A) (b done : B) → onto (more a b) done ≡ onto b (more a done)) where
+  back_one : (b : B) (a : A) (x : Res B) → with_back onto b (bind x (λ bs rest. Got (more a bs) rest)) ≡ with_back onto (more a b) x
+  back_one b a (Got bs rest) = ap (λ y. Got y rest) (sym (law a b bs))
+  back_one b a (Bad rest) = refl
+
+  pub one_item : (m i n p : ℕ) (b : B) (a : A) (ts after next : List Lexeme) (total : Res B) → i < m → item n ts ≡ Got a after → is_mark c (peek after) ≡ true → mark c after ≡ Got p next
+      → total ≡ with_back onto b (listed c item more none (m - i) n ts) → total ≡ with_back onto (more a b) (listed c item more none (m - (i + 1)) n next)
+  one_item m i n p b a ts after next total l e j k d =
+      let z : m - i ≡ suc (m - (i + 1)) = omega arith in
+      let s = after_mark c after next p j k in
+      let d1 : total ≡ with_back onto b (listed c item more none (suc (m - (i + 1))) n ts) = subst (λ q. total ≡ with_back onto b (listed c item more none q n ts)) z d in
+      let step : listed c item more none (suc (m - (i + 1))) n ts ≡ bind (listed c item more none (m - (i + 1)) n next) (λ bs rest. Got (more a bs) rest) = go s.0 after s.1 e j in
+      d1 ∙ (ap (λ q. with_back onto b q) step ∙ back_one b a (listed c item more none (m - (i + 1)) n next)) where
+        go : (t : Lexeme) (after : List Lexeme) → after ≡ t ∷ next → item n ts ≡ Got a after → is_mark c (peek after) ≡ true
+            → listed c item more none (suc (m - (i + 1))) n ts ≡ bind (listed c item more none (m - (i + 1)) n next) (λ bs rest. Got (more a bs) rest)
+        go t after q e j =
+            let e1 : item n ts ≡ Got a (t ∷ next) = subst (λ y. item n ts ≡ Got a y) q e in
+            let j1 : is_mark c (peek (t ∷ next)) ≡ true = subst (λ y. is_mark c (peek y) ≡ true) q j in
+            rw (e1, j1) refl
+
+  pub last_item : (m i n : ℕ) (b : B) (a : A) (ts after : List Lexeme) (total : Res B) → i < m → item n ts ≡ Got a after → is_mark c (peek after) ≡ false
+      → total ≡ with_back onto b (listed c item more none (m - i) n ts) → total ≡ Got (onto (more a b) none) after
+  last_item m i n b a ts after total l e j d =
+      let z : m - i ≡ suc (m - (i + 1)) = omega arith in
+      let d1 : total ≡ with_back onto b (listed c item more none (suc (m - (i + 1))) n ts) = subst (λ q. total ≡ with_back onto b (listed c item more none q n ts)) z d in
+      d1 ∙ (rw (e, j) refl ∙ ap (λ y. Got y after) (sym (law a b none)))
+
+  pub end_item : (m i n : ℕ) (b : B) (a : A) (ts after : List Lexeme) (total : Res B) → i ≡ m → item n ts ≡ Got a after
+      → total ≡ with_back onto b (listed c item more none (m - i) n ts) → total ≡ Got (onto (more a b) none) after
+  end_item m i n b a ts after total l e d =
+      let z : m - i ≡ 0 = omega arith in
+      let d1 : total ≡ with_back onto b (listed c item more none 0 n ts) = subst (λ q. total ≡ with_back onto b (listed c item more none q n ts)) z d in
+      d1 ∙ (rw e refl ∙ ap (λ y. Got y after) (sym (law a b none)))
+
+  pub bad_item : (k n : ℕ) (b : B) (ts : List Lexeme) (total : Res B) (s : Stop) → Fails s (item n ts) → total ≡ with_back onto b (listed c item more none k n ts) → Fails s total
+  bad_item k n b ts total Memory f d = tt
+  bad_item zero n b ts total (Wrong us) f d = d ∙ rw f refl
+  bad_item (suc k) n b ts total (Wrong us) f d = d ∙ rw f refl
