@@ -1,9 +1,9 @@
 -- Readings where there is room, and heights of lists.
 use Rattle.std.proofs.Common.{◌≡◌, ◌≢◌, ℕ, zero, suc, max, ◌≤◌, ◌<◌, ◌+◌, ◌-◌, List, refl, sym, ◌∙◌, ap, arith}
 use Rattle.th_tree.specs.declared.lexeme.Lexeme.{Lexeme}
-use Rattle.th_tree.specs.Trees.{TypeSyn, TypeSyns, no_type, more_types, type_height, types_height}
-use Rattle.th_tree.specs.Onto.{types_onto}
-use Rattle.th_tree.specs.Grammar.{Form}
+use Rattle.th_tree.specs.Trees.{TypeSyn, TypeSyns, no_type, more_types, type_height, types_height, ExprSyns, no_expr, more_exprs}
+use Rattle.th_tree.specs.Onto.{types_onto, exprs_onto}
+use Rattle.th_tree.specs.Grammar.{Form, Found, Founds, no_founds, more_founds}
 use Rattle.th_parse.specs.Read.{Res, P}
 use Rattle.th_parse.specs.Parse.{read_type, type_of, read_named, named_type_of, read_form, form_of, read_body, stmt_of}
 
@@ -36,3 +36,20 @@ pub grown_height : (h k l : ℕ) (t : TypeSyn) (ts all : TypeSyns) → l ≡ max
 grown_height h k l t ts all e d i j =
     let z : l ≡ max (type_height t) (types_height ts) = omega arith in
     z ∙ ap types_height (sym j)
+
+abbrev pub founds : ExprSyns → ℕ → Founds
+founds es h = record { trees = es; height = h }
+
+-- the first expressions the other way round, before the second
+abbrev pub founds_onto : Founds → Founds → Founds
+founds_onto a b = founds (exprs_onto a.trees b.trees) (max a.height b.height)
+
+pub founds_law : (a : Found) (b done : Founds) → founds_onto (more_founds a b) done ≡ founds_onto b (more_founds a done)
+founds_law a b done = ap (λ h. founds (exprs_onto b.trees (more_exprs a.tree done.trees)) h) (turn a.height b.height done.height) where
+  turn : (x y z : ℕ) → max (max x y) z ≡ max y (max x z)
+  turn x y z = omega arith
+
+pub founds_none : (b : Founds) → founds_onto no_founds b ≡ b
+founds_none b = ap (λ h. founds b.trees h) (zero_max b.height) where
+  zero_max : (x : ℕ) → max 0 x ≡ x
+  zero_max x = omega arith

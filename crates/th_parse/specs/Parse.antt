@@ -49,6 +49,10 @@ abbrev pub read_named : ℕ → ℕ → P NamedSyn
 read_named zero n ts = Bad ts
 read_named (suc r) n ts = named_type_of r (read_type r) n ts
 
+-- the marks with which a suffix begins
+abbrev pub suffix_first : List ℕ
+suffix_first = code (Symbol Dot) ∷ code (Symbol OpenSquare) ∷ []
+
 -- whether a value is low enough to be a part of one of the height r + 1
 abbrev pub goes_on : ℕ → Found → Bool
 goes_on r a = nat_le a.height r
@@ -120,7 +124,7 @@ module _ (r : ℕ) (sub : Form → ℕ → P Found) where
 
   -- the suffixes after an atom
   abbrev pub suffixes : Found → ℕ → P Found
-  suffixes a n ts = steps (in_set (code (Symbol Dot) ∷ code (Symbol OpenSquare) ∷ [])) (goes_on r) suffix_of (suc r) a n ts
+  suffixes a n ts = steps (in_set suffix_first) (goes_on r) suffix_of (suc r) a n ts
 
   abbrev pub post_of : ℕ → P Found
   post_of = seq atom_of suffixes
