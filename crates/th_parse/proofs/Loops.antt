@@ -1,10 +1,10 @@
 -- The turns of the code's loops over lists.
-use Rattle.std.proofs.Common.{◌≡◌, ℕ, zero, suc, ◌<◌, ◌+◌, ◌-◌, Bool, true, false, List, [], ◌∷◌, refl, sym, ◌∙◌, subst, ap, arith, if◌then◌else◌}
+use Rattle.std.proofs.Common.{◌≡◌, ℕ, zero, suc, ◌<◌, ◌+◌, ◌-◌, Bool, true, false, Option, List, [], ◌∷◌, refl, sym, ◌∙◌, subst, ap, arith, if◌then◌else◌}
 use Rattle.th_tree.specs.declared.lexeme.Mark.{Mark}
 use Rattle.th_tree.specs.declared.lexeme.Lexeme.{Lexeme}
 use Rattle.th_parse.specs.declared.step.Stop.{Stop}
 use Rattle.th_parse.specs.declared.step.Stop.TheVariants.{Memory, Wrong}
-use Rattle.th_parse.specs.Read.{Res, Got, Bad, P, bind, peek, take_one, in_set, is_mark, mark, listed, many}
+use Rattle.th_parse.specs.Read.{Res, Got, Bad, P, bind, peek, take_one, in_set, is_mark, mark, listed, many, steps}
 use Rattle.th_parse.specs.Gives.{Fails}
 
 -- what was read before, back to front, before what is read
@@ -61,3 +61,30 @@ module _ {A B : Type 0} (c : Mark) (item : ℕ → P A) (more : A → B → B) (
   bad_item k n b ts total Memory f d = tt
   bad_item zero n b ts total (Wrong us) f d = d ∙ rw f refl
   bad_item (suc k) n b ts total (Wrong us) f d = d ∙ rw f refl
+
+-- the turns of the loops over steps
+module _ {A : Type 0} (test : Option Mark → Bool) (goes : A → Bool) (step : A → ℕ → P A) where
+  pub first_step : (r n : ℕ) (a : A) (ts : List Lexeme) → steps test goes step (suc r) a n ts ≡ steps test goes step (suc r - 0) a n ts
+  first_step r n a ts = let z : suc r - 0 ≡ suc r = omega arith in ap (λ k. steps test goes step k a n ts) (sym z)
+
+  pub one_step : (r i n : ℕ) (a b : A) (ts more : List Lexeme) (total : Res A) → i < r + 1 → test (peek ts) ≡ true → goes a ≡ true → step a n ts ≡ Got b more
+      → total ≡ steps test goes step (suc r - i) a n ts → total ≡ steps test goes step (suc r - (i + 1)) b n more
+  one_step r i n a b ts more total l j g e d =
+      let z : suc r - i ≡ suc (suc r - (i + 1)) = omega arith in
+      let d1 : total ≡ steps test goes step (suc (suc r - (i + 1))) a n ts = subst (λ q. total ≡ steps test goes step q a n ts) z d in
+      d1 ∙ rw (j, g, e) refl
+
+  pub shut_step : (r i n : ℕ) (a : A) (ts : List Lexeme) (total : Res A) → i < r + 1 → test (peek ts) ≡ true → goes a ≡ false
+      → total ≡ steps test goes step (suc r - i) a n ts → total ≡ Bad ts
+  shut_step r i n a ts total l j g d =
+      let z : suc r - i ≡ suc (suc r - (i + 1)) = omega arith in
+      let d1 : total ≡ steps test goes step (suc (suc r - (i + 1))) a n ts = subst (λ q. total ≡ steps test goes step q a n ts) z d in
+      d1 ∙ rw (j, g) refl
+
+  pub bad_step : (r i n : ℕ) (a : A) (ts : List Lexeme) (total : Res A) (s : Stop) → i < r + 1 → test (peek ts) ≡ true → goes a ≡ true → Fails s (step a n ts)
+      → total ≡ steps test goes step (suc r - i) a n ts → Fails s total
+  bad_step r i n a ts total Memory l j g f d = tt
+  bad_step r i n a ts total (Wrong us) l j g f d =
+      let z : suc r - i ≡ suc (suc r - (i + 1)) = omega arith in
+      let d1 : total ≡ steps test goes step (suc (suc r - (i + 1))) a n ts = subst (λ q. total ≡ steps test goes step q a n ts) z d in
+      d1 ∙ rw (j, g, f) refl

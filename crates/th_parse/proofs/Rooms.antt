@@ -53,3 +53,9 @@ pub founds_none : (b : Founds) → founds_onto no_founds b ≡ b
 founds_none b = ap (λ h. founds b.trees h) (zero_max b.height) where
   zero_max : (x : ℕ) → max 0 x ≡ x
   zero_max x = omega arith
+
+pub founds_grown : (a : Found) (es : ExprSyns) (h l : ℕ) → l ≡ max h a.height → more_founds a (founds es h) ≡ founds (more_exprs a.tree es) l
+founds_grown a es h l e = let z : max a.height h ≡ l = omega arith in ap (λ x. founds (more_exprs a.tree es) x) z
+
+pub founds_turned : (a : Found) (es : ExprSyns) (h l : ℕ) → l ≡ max h a.height → founds_onto (more_founds a (founds es h)) no_founds ≡ founds (exprs_onto (more_exprs a.tree es) no_expr) l
+founds_turned a es h l e = let z : max (max a.height h) 0 ≡ l = omega arith in ap (λ x. founds (exprs_onto (more_exprs a.tree es) no_expr) x) z
