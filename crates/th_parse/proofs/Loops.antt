@@ -6,10 +6,7 @@ use Rattle.th_parse.specs.declared.step.Stop.{Stop}
 use Rattle.th_parse.specs.declared.step.Stop.TheVariants.{Memory, Wrong}
 use Rattle.th_parse.specs.Read.{Res, Got, Bad, P, bind, peek, take_one, in_set, is_mark, mark, listed, many, steps}
 use Rattle.th_parse.specs.Gives.{Fails}
-
--- what was read before, back to front, before what is read
-abbrev pub with_back : {B : Type 0} → (B → B → B) → B → Res B → Res B
-with_back onto b x = bind x (λ bs rest. Got (onto b bs) rest)
+use Rattle.th_parse.specs.Parts.{with_back}
 
 after_mark : (c : Mark) (ts next : List Lexeme) (p : ℕ) → is_mark c (peek ts) ≡ true → mark c ts ≡ Got p next → (t : Lexeme) × (ts ≡ t ∷ next)
 after_mark c ts next p i e = split ts (sym (rw i refl) ∙ e) where
@@ -88,3 +85,31 @@ module _ {A : Type 0} (test : Option Mark → Bool) (goes : A → Bool) (step : 
       let z : suc r - i ≡ suc (suc r - (i + 1)) = omega arith in
       let d1 : total ≡ steps test goes step (suc (suc r - (i + 1))) a n ts = subst (λ q. total ≡ steps test goes step q a n ts) z d in
       d1 ∙ rw (j, g, f) refl
+
+-- the turns of the loops over any number of items
+module _ {A B : Type 0} (test : Option Mark → Bool) (item : ℕ → P A) (more : A → B → B) (last : ℕ → P B) (onto : B → B → B) (law : (a : A) (b done : B) → onto (more a b) done ≡ onto b (more a done)) where
+  many_back : (b : B) (a : A) (x : Res B) → with_back onto b (bind x (λ bs rest. Got (more a bs) rest)) ≡ with_back onto (more a b) x
+  many_back b a (Got bs rest) = ap (λ y. Got y rest) (sym (law a b bs))
+  many_back b a (Bad rest) = refl
+
+  pub one_more : (m i n : ℕ) (b : B) (a : A) (ts after : List Lexeme) (total : Res B) → i < m → test (peek ts) ≡ true → item n ts ≡ Got a after
+      → total ≡ with_back onto b (many test item more last (m - i) n ts) → total ≡ with_back onto (more a b) (many test item more last (m - (i + 1)) n after)
+  one_more m i n b a ts after total l j e d =
+      let z : m - i ≡ suc (m - (i + 1)) = omega arith in
+      let d1 : total ≡ with_back onto b (many test item more last (suc (m - (i + 1))) n ts) = subst (λ q. total ≡ with_back onto b (many test item more last q n ts)) z d in
+      let step : many test item more last (suc (m - (i + 1))) n ts ≡ bind (many test item more last (m - (i + 1)) n after) (λ bs rest. Got (more a bs) rest) = rw (j, e) refl in
+      d1 ∙ (ap (λ q. with_back onto b q) step ∙ many_back b a (many test item more last (m - (i + 1)) n after))
+
+  pub no_more : (k n : ℕ) (b : B) (ts : List Lexeme) (total : Res B) → test (peek ts) ≡ false → total ≡ with_back onto b (many test item more last k n ts) → total ≡ with_back onto b (last n ts)
+  no_more zero n b ts total j d = d
+  no_more (suc k) n b ts total j d = d ∙ rw j refl
+
+  pub all_more : (m i n : ℕ) (b : B) (ts : List Lexeme) (total : Res B) → i ≡ m → total ≡ with_back onto b (many test item more last (m - i) n ts) → total ≡ with_back onto b (last n ts)
+  all_more m i n b ts total l d = let z : m - i ≡ 0 = omega arith in subst (λ q. total ≡ with_back onto b (many test item more last q n ts)) z d
+
+  pub bad_more : (m i n : ℕ) (b : B) (ts : List Lexeme) (total : Res B) (s : Stop) → i < m → test (peek ts) ≡ true → Fails s (item n ts) → total ≡ with_back onto b (many test item more last (m - i) n ts) → Fails s total
+  bad_more m i n b ts total Memory l j f d = tt
+  bad_more m i n b ts total (Wrong us) l j f d =
+      let z : m - i ≡ suc (m - (i + 1)) = omega arith in
+      let d1 : total ≡ with_back onto b (many test item more last (suc (m - (i + 1))) n ts) = subst (λ q. total ≡ with_back onto b (many test item more last q n ts)) z d in
+      d1 ∙ rw (j, f) refl

@@ -3,3 +3,4 @@ pub mod Parse
 pub mod Gives
 pub mod Lists
 pub mod Founds
+pub mod Parts

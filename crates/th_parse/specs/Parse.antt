@@ -191,6 +191,10 @@ read_exc =
     (either (Word KeyEndOfInput) (seq (one (Word KeyEndOfInput)) (λ p. ret (EndOfInput p)))
     (seq read_ref (λ a. ret (Declared a))))))
 
+-- the `end` after handlers
+abbrev pub whens_end : ℕ → P WhenSyns
+whens_end = after (Word KeyEnd) (ret no_when)
+
 -- statements up to the height r + 1, where `sub` reads statements up to r
 module _ (r : ℕ) (sub : ℕ → P BodySyn) where
   abbrev pub var_of : ℕ → P StmtSyn
@@ -246,7 +250,7 @@ module _ (r : ℕ) (sub : ℕ → P BodySyn) where
 
   -- further handlers and the `end`
   abbrev pub whens_of : ℕ → P WhenSyns
-  whens_of = any_of (code (Word KeyWhen) ∷ []) when_of more_handlers (after (Word KeyEnd) (ret no_when))
+  whens_of = any_of (code (Word KeyWhen) ∷ []) when_of more_handlers whens_end
 
   abbrev pub begin_of : ℕ → P StmtSyn
   begin_of = seq (one (Word KeyBegin)) (λ p. seq sub (λ b. after (Word KeyExcept) (seq when_of (λ w. seq whens_of (λ ws. ret (begin_stmt p b (more_handlers w ws)))))))
@@ -278,7 +282,11 @@ abbrev pub stmt_first : List ℕ
 stmt_first = code (Word KeyVar) ∷ code (Word KeyIf) ∷ code (Word KeyWhile) ∷ code (Word KeyFor) ∷ code (Word KeyReturn) ∷ code (Word KeyYield) ∷ code (Word KeyRaise) ∷ code (Word KeyBegin)
     ∷ code (Word KeyPutByte) ∷ code (Word KeyPutInt) ∷ code (Word KeyPutString) ∷ code (Word KeyBreak) ∷ atom_first
 
+-- statements up to the height r + 1
+abbrev pub stmts_of : ℕ → (ℕ → P BodySyn) → ℕ → P BodySyn
+stmts_of r sub = any_of stmt_first (stmt_of r sub) more_stmts (ret no_stmt)
+
 -- statements up to the height r
 abbrev pub read_body : ℕ → ℕ → P BodySyn
 read_body zero n ts = Got no_stmt ts
-read_body (suc r) n ts = any_of stmt_first (stmt_of r (read_body r)) more_stmts (ret no_stmt) n ts
+read_body (suc r) n ts = stmts_of r (read_body r) n ts

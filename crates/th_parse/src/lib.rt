@@ -3,4 +3,5 @@
 
 mod exprs;
 mod step;
+mod stmts;
 mod types;

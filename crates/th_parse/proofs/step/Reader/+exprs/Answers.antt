@@ -8,7 +8,8 @@ use Rattle.th_tree.specs.Grammar.{Expr, operator_of, no_founds, more_founds}
 use Rattle.th_parse.specs.Read.{Got, in_set, has, lookup, steps, bind, listed}
 use Rattle.th_parse.specs.Parse.{read_form, suffix_first, suffix_of, suffixes, atom_of, goes_on, post_of, operand_of, chain}
 use Rattle.th_parse.specs.Founds.{read_of, form_named, expr_list}
-use Rattle.th_parse.proofs.Loops.{with_back, one_item, last_item, first_step, one_step, shut_step, bad_step}
+use Rattle.th_parse.specs.Parts.{with_back}
+use Rattle.th_parse.proofs.Loops.{one_item, last_item, first_step, one_step, shut_step, bad_step}
 use Rattle.th_parse.proofs.Rooms.{form_room, founds, founds_onto, founds_law, founds_grown, founds_turned}
 use Rattle.th_parse.proofs.step.Reader.+exprs.Goals as goal
 

@@ -6,7 +6,7 @@ use Rattle.th_tree.specs.Grammar.{Expr, operator_of, no_founds, more_founds}
 use Rattle.th_parse.specs.Read.{in_set, has, lookup, steps, listed}
 use Rattle.th_parse.specs.Parse.{read_form, suffix_first, suffix_of, goes_on, post_of, operand_of, chain}
 use Rattle.th_parse.specs.Founds.{read_of, form_named, expr_list}
-use Rattle.th_parse.proofs.Loops.{with_back}
+use Rattle.th_parse.specs.Parts.{with_back}
 use Rattle.th_parse.proofs.Rooms.{founds_onto, founds}
 use Rattle.th_parse.proofs.step.Reader.+exprs.Given as goal
 

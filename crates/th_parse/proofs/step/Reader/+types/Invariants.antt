@@ -7,7 +7,7 @@ use Rattle.th_tree.specs.Onto.{types_onto}
 use Rattle.th_parse.specs.Read.{listed}
 use Rattle.th_parse.specs.Parse.{read_type}
 use Rattle.th_parse.specs.Lists.{type_list}
-use Rattle.th_parse.proofs.Loops.{with_back}
+use Rattle.th_parse.specs.Parts.{with_back}
 use Rattle.th_parse.proofs.step.Reader.+types.Given as goal
 
 abbrev pub decreases-array_type : goal.decreases-array_type
