@@ -11,3 +11,4 @@ pub mod ExprLaws
 pub mod StmtLaws
 pub mod Loops
 pub mod Rooms
+pub mod Exact

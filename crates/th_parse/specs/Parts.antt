@@ -1,5 +1,5 @@
 -- What the code read of statements, without where it lies in memory.
-use Rattle.std.specs.Prelude.{ℕ, List, nat_lt, ◌×◌, if◌then◌else◌}
+use Rattle.std.specs.Prelude.{ℕ, List, nat_lt, if◌then◌else◌}
 use Rattle.th_tree.specs.declared.tokens.Reserved.{Reserved}
 use Rattle.th_tree.specs.declared.tokens.Sym.TheVariants.{OpenParen, CloseParen, Semicolon}
 use Rattle.th_tree.specs.declared.lexeme.Mark.TheVariants.{Word, Symbol}
