@@ -4,3 +4,7 @@ pub mod Right
 pub mod Quotes
 pub mod Signs
 pub mod Values
+pub mod Gaps
+pub mod Unique
+pub mod Steps
+pub mod Held

@@ -1,11 +1,10 @@
 -- Names, words and numbers: what the code finds is the longest token, or there is none.
-use Rattle.std.proofs.Common.{◌≡◌, ℕ, zero, suc, ◌+◌, ◌≤◌, ◌<◌, Bool, true, false, if◌then◌else◌, ◌&&◌, ◌||◌, nat_eq, nat_le, List, [], ◌∷◌, ◌++◌, length, take, drop, slice_index, Option, Some, None, refl, sym, ◌∙◌, ap, subst, arith, length-append, ◌⊎◌, inl, inr}
-use Rattle.std.proofs.lemmas.Bool.{eqb-true}
+use Rattle.std.proofs.Common.{◌≡◌, ℕ, suc, ◌+◌, ◌≤◌, ◌<◌, Bool, true, false, if◌then◌else◌, ◌&&◌, nat_le, List, [], ◌∷◌, ◌++◌, length, take, drop, slice_index, Option, Some, None, refl, sym, ◌∙◌, ap, subst, arith, length-append, leb-false}
 use Rattle.std.specs.List.{prefix_len}
 use Rattle.th_tree.specs.declared.tokens.TokenKind.{TokenKind}
-use Rattle.th_tree.specs.declared.tokens.TokenKind.TheVariants.{Name, Word, Number, Symbol, Text}
+use Rattle.th_tree.specs.declared.tokens.TokenKind.TheVariants.{Number}
 use Rattle.th_tree.specs.Tokens.{is_letter, is_digit, is_inner, is_blank, all, value, word_kind, reserved_of, kind_of, begins}
-use Rattle.th_tree.specs.Cut.{MayFollow, TokenAt, Longest, Gap, blank, comment, in_line, WideNumber, BadByte}
+use Rattle.th_tree.specs.Cut.{MayFollow, TokenAt, Longest, Gap, blank, comment, in_line, WideNumber}
 use Rattle.th_lex.specs.Stands.{decimal_of}
 use Rattle.th_lex.proofs.Fronts.{and_left, and_right, front, back, front_all, front_back, back_ends, front_max, front_exact, prefix_front, take_here, drop_here}
 
@@ -54,9 +53,9 @@ right_letter b bs l = record {
   token = record {
     split = ap (λ x. b ∷ x) (front_back is_inner bs);
     is = rw (l, front_all is_inner bs) refl;
-    ends = word_follows (reserved_of (b ∷ front is_inner bs)) (back is_inner bs)
+    ends = word_follows (reserved_of (b ∷ front is_inner bs)) (back is_inner bs);
   };
-  longest = λ cs rest j h. letter_longest b bs cs rest j l (tail_of b bs cs rest j h)
+  longest = λ cs rest j h. letter_longest b bs cs rest j l (tail_of b bs cs rest j h);
 }
 
 -- the count of a class, from its first byte on
@@ -99,9 +98,9 @@ right_digit b bs l d v = record {
   token = record {
     split = ap (λ x. b ∷ x) (front_back is_digit bs);
     is = rw (l, d, front_all is_digit bs, v) refl;
-    ends = back_ends is_digit bs
+    ends = back_ends is_digit bs;
   };
-  longest = λ cs rest j h. let e : length cs ≡ length (b ∷ front is_digit bs) = ap length (digits b bs cs rest j l d h).0 in omega arith
+  longest = λ cs rest j h. let e : length cs ≡ length (b ∷ front is_digit bs) = ap length (digits b bs cs rest j l d h).0 in omega arith;
 }
 
 some_value : (n : ℕ) (v : Bool) (k : ℕ) → nat_le n 2147483647 ≡ v → (if v then Some n else None) ≡ Some k → (nat_le n 2147483647 ≡ true) × (n ≡ k)
@@ -136,7 +135,7 @@ number_wide (b ∷ bs) n s d e h =
       some = omega arith;
       are = rw (d, front_all is_digit bs) refl;
       ends = back_ends is_digit bs;
-      great = no_value _ _ refl i
+      great = no_value _ _ refl i;
     }
 
 pub digits_all : (text : List ℕ) (n : ℕ) → n ≡ prefix_len is_digit text → all is_digit (take n text) ≡ true

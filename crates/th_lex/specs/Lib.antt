@@ -1,2 +1,3 @@
 pub mod ByLength
 pub mod Stands
+pub mod Answer

@@ -1,6 +1,6 @@
 -- What stands at the front of a text.
-use Rattle.std.specs.Prelude.{ℕ, ◌+◌, ◌≤◌, Bool, true, false, nat_eq, nat_le, List, [], ◌∷◌, length, take, drop, Option, Some, None, if◌then◌else◌}
-use Rattle.th_tree.specs.Tokens.{value, is_plain, is_escape}
+use Rattle.std.specs.Prelude.{ℕ, ◌+◌, ◌≤◌, nat_eq, nat_le, List, [], ◌∷◌, length, take, drop, Option, Some, None, if◌then◌else◌}
+use Rattle.th_tree.specs.Tokens.{value, is_printed, is_escape}
 use Rattle.th_tree.specs.Cut.{Gap, Longest, BadByte, WideNumber}
 use Rattle.th_lex.specs.declared.front.Item.{Item}
 use Rattle.th_lex.specs.declared.front.Item.TheVariants as items
@@ -25,7 +25,7 @@ abbrev mutual
   -- how many bytes a string literal has after its opening quote, where it has an end
   pub quoted : List ℕ → Option ℕ
   quoted [] = None
-  quoted (b ∷ bs) = if nat_eq b 34 then Some 1 else (if nat_eq b 92 then further 1 (escaped bs) else (if is_plain b then further 1 (quoted bs) else None))
+  quoted (b ∷ bs) = if nat_eq b 34 then Some 1 else (if nat_eq b 92 then further 1 (escaped bs) else (if is_printed b then further 1 (quoted bs) else None))
 
   -- the same after a backslash
   pub escaped : List ℕ → Option ℕ

@@ -30,11 +30,11 @@ pub(crate) fn is_inner(byte: u8) -> bool
     is_letter(byte) || is_digit(byte) || byte == b'_'
 }
 
-/// Whether the byte stands for itself in a string literal.
-pub(crate) fn is_plain(byte: u8) -> bool
-    ensures { result ≡ tokens.is_plain byte }
+/// Whether the byte is one of printed text, 32 to 126.
+pub(crate) fn is_printed(byte: u8) -> bool
+    ensures { result ≡ tokens.is_printed byte }
 {
-    b' ' <= byte && byte <= b'~' && byte != b'"' && byte != b'\\'
+    b' ' <= byte && byte <= b'~'
 }
 
 /// Whether the byte may follow a backslash in a string literal.

@@ -1,14 +1,16 @@
 //! What stands at the front of a text.
-ghost use Rattle.std.specs.Prelude.{◌≡◌, ◌<◌, ◌≤◌, length, drop, slice_index, Some, None, true, false};
+ghost use Rattle.std.specs.Prelude.{◌≡◌, ◌<◌, ◌≤◌, length, drop, slice_index, Some, None, true, false, [], ◌∷◌};
 ghost use Rattle.std.specs.List.{prefix_len};
 ghost use Rattle.th_tree.specs.Tokens as tokens;
 ghost use Rattle.th_tree.specs.Cut.{in_line};
+ghost use Rattle.th_tree.specs.Tokens.{written_as};
+ghost use Rattle.th_lex.specs.ByLength.{symbols_of};
 ghost use Rattle.th_lex.specs.Stands.{Stands, decimal_of, quoted};
 
-use crate::classes::{is_blank, is_digit, is_escape, is_inner, is_letter, is_plain};
+use crate::classes::{is_blank, is_digit, is_escape, is_inner, is_letter, is_printed};
 use crate::symbols::{pair, single};
 use crate::words::reserved;
-use th_tree::TokenKind;
+use th_tree::{Sym, TokenKind};
 
 /// What stands at the front of a text that is not empty.
 #[derive(Clone, Copy)]
@@ -134,7 +136,7 @@ fn quoted_len(text: &[u8]) -> Option<usize>
                 at += 2;
             }
             byte => {
-                if !is_plain(byte) {
+                if !is_printed(byte) {
                     return None;
                 }
                 at += 1;
@@ -154,13 +156,22 @@ fn symbol(text: &[u8]) -> Item
     requires no_quote { slice_index text.now 0 ≡ 34 → ⊥ }
     ensures { Stands text.now result }
 {
-    if text.len() > 1 {
-        if let Some(sym) = pair(text[0], text[1]) {
-            return Item::Token(TokenKind::Symbol(sym), 2);
-        }
+    match leading_pair(text) {
+        Some(sym) => Item::Token(TokenKind::Symbol(sym), 2),
+        None => match single(text[0]) {
+            Some(sym) => Item::Token(TokenKind::Symbol(sym), 1),
+            None => Item::BadByte,
+        },
     }
-    match single(text[0]) {
-        Some(sym) => Item::Token(TokenKind::Symbol(sym), 1),
-        None => Item::BadByte,
+}
+
+/// The symbol of the first two bytes; None where there is none.
+fn leading_pair(text: &[u8]) -> Option<Sym>
+    ensures long { 1 < length text.now → result ≡ written_as tokens.sign (symbols_of 2) (slice_index text.now 0 ∷ slice_index text.now 1 ∷ []) }
+    ensures short { length text.now ≤ 1 → result ≡ None }
+{
+    match text {
+        [first, second, ..] => pair(*first, *second),
+        _ => None,
     }
 }

@@ -1,2 +1,83 @@
-//! Not written yet.
+//! The top call: it does all that the program does, over files and streams that it is lent.
 #![tactic(auto)]
+
+ghost use Rattle.std.specs.Prelude.{◌≡◌, ◌↔◌, ℕ, map, string_bytes};
+ghost use Rattle.th_top.specs.Answers.{Answers};
+ghost use Rattle.th_top.specs.Complete.{CompleteFor, RefusedFor, HeadlineFor};
+ghost use Rattle.th_top.specs.Outside.{outside};
+ghost use Rattle.th_top.specs.Report.{reported};
+ghost use Rattle.th_top.specs.Words.{IsCommand};
+
+mod build;
+mod go;
+mod report;
+mod words;
+
+use go::go;
+use report::{say, say_verdict};
+use std::alloc::Global;
+use th_world::{Files, Sink, Source};
+use words::command;
+
+/// The status where the words are no command.
+const NO_COMMAND: u8 = 1;
+
+/// Does what the words say and answers the status.
+fn obey<F: Files, S: Source, K: Sink, E: Sink>(
+    alloc: Global,
+    words: &[String],
+    files: &mut F,
+    input: &mut S,
+    output: &mut K,
+    report: &mut E,
+) -> u8
+    ensures { Answers (map string_bytes words.now)
+        (outside (F.map files.old) (F.written files.old) (F.Files.faults files.old) (S.left input.old) (S.Source.faults input.old) (K.put_bytes output.old) (K.Sink.faults output.old))
+        (outside (F.map files.new) (F.written files.new) (F.Files.faults files.new) (S.left input.new) (S.Source.faults input.new) (K.put_bytes output.new) (K.Sink.faults output.new))
+        (reported (E.put_bytes report.old) (E.Sink.faults report.old)) (reported (E.put_bytes report.new) (E.Sink.faults report.new)) result }
+{
+    let Some(command) = command(words) else {
+        let _ = say(report, b"words\n");
+        return NO_COMMAND;
+    };
+    let verdict = go(alloc, command, files, input, output);
+    let _ = say_verdict(report, verdict);
+    verdict.status()
+}
+
+/// Does what the words say and answers the status (docs/LANGUAGE.md has the commands, the statuses
+/// and the lines that are put at the report).
+pub fn theta<F: Files, S: Source, K: Sink, E: Sink>(
+    alloc: Global,
+    words: &[String],
+    files: &mut F,
+    input: &mut S,
+    output: &mut K,
+    report: &mut E,
+) -> u8
+    // What it answers, reports, writes, puts and takes, with the cause of each status.
+    ensures answers { Answers (map string_bytes words.now)
+        (outside (F.map files.old) (F.written files.old) (F.Files.faults files.old) (S.left input.old) (S.Source.faults input.old) (K.put_bytes output.old) (K.Sink.faults output.old))
+        (outside (F.map files.new) (F.written files.new) (F.Files.faults files.new) (S.left input.new) (S.Source.faults input.new) (K.put_bytes output.new) (K.Sink.faults output.new))
+        (reported (E.put_bytes report.old) (E.Sink.faults report.old)) (reported (E.put_bytes report.new) (E.Sink.faults report.new)) result }
+
+    // Status 1 comes exactly where the words are no command.
+    ensures command { (result ≡ 1) ↔ (IsCommand (map string_bytes words.now) → ⊥) }
+
+    // A text that is built gives 0, or 9 for want of memory, where no count of faults rises.
+    ensures complete { CompleteFor (map string_bytes words.now)
+        (outside (F.map files.old) (F.written files.old) (F.Files.faults files.old) (S.left input.old) (S.Source.faults input.old) (K.put_bytes output.old) (K.Sink.faults output.old))
+        (outside (F.map files.new) (F.written files.new) (F.Files.faults files.new) (S.left input.new) (S.Source.faults input.new) (K.put_bytes output.new) (K.Sink.faults output.new)) result }
+
+    // A text that isn't built gives 3, or 9 for want of memory, where no count of faults rises.
+    ensures refused { RefusedFor (map string_bytes words.now)
+        (outside (F.map files.old) (F.written files.old) (F.Files.faults files.old) (S.left input.old) (S.Source.faults input.old) (K.put_bytes output.old) (K.Sink.faults output.old))
+        (outside (F.map files.new) (F.written files.new) (F.Files.faults files.new) (S.left input.new) (S.Source.faults input.new) (K.put_bytes output.new) (K.Sink.faults output.new)) result }
+
+    // Status 0 says that the executable at OUT did what the source does.
+    ensures headline { HeadlineFor (map string_bytes words.now)
+        (outside (F.map files.old) (F.written files.old) (F.Files.faults files.old) (S.left input.old) (S.Source.faults input.old) (K.put_bytes output.old) (K.Sink.faults output.old))
+        (outside (F.map files.new) (F.written files.new) (F.Files.faults files.new) (S.left input.new) (S.Source.faults input.new) (K.put_bytes output.new) (K.Sink.faults output.new)) result }
+{
+    obey(alloc, words, files, input, output, report)
+}

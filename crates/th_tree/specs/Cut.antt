@@ -65,3 +65,15 @@ FirstBad text p = (rest : List ℕ) × (ts : List Token) × CutTo p rest 0 text 
 -- byte p is the first place without a token, and a wide number stands there
 abbrev pub FirstWide : List ℕ → ℕ → Type 0
 FirstWide text p = (rest : List ℕ) × (ts : List Token) × CutTo p rest 0 text ts × WideNumber rest
+
+-- what becomes of a text: its cutting, or the first place without a token, where a wide number stands or not
+pub data Verdict : Type 0 where
+  Cuts : List Token → Verdict
+  Bad : ℕ → Verdict
+  Wide : ℕ → Verdict
+
+-- the text has that verdict
+abbrev pub HasVerdict : List ℕ → Verdict → Type 0
+HasVerdict text (Cuts ts) = Cut text ts
+HasVerdict text (Bad p) = FirstBad text p
+HasVerdict text (Wide p) = FirstWide text p

@@ -1,6 +1,7 @@
 pub mod Tokens
 pub mod Cut
 pub mod Spans
+pub mod Names
 pub mod Trees
 pub mod View
 pub mod Forms
@@ -8,5 +9,4 @@ pub mod Grammar
 pub mod Declarations
 pub mod Numbered
 pub mod Verdict
-pub mod Tables
 pub mod Onto

@@ -1,7 +1,5 @@
 -- The lexemes of tokens: names and literals by their numbers in a table.
 use Rattle.std.specs.Prelude.{◌≡◌, ℕ, zero, suc, ◌+◌, Bool, true, false, nat_eq, List, [], ◌∷◌, ◌++◌, map, drop, length, if◌then◌else◌}
-use Rattle.std.specs.Str.{bytes_eq}
-use Rattle.std.specs.List.{list_any, position_or_len}
 use Rattle.th_tree.specs.declared.tokens.TokenKind.{TokenKind}
 use Rattle.th_tree.specs.declared.tokens.TokenKind.TheVariants as kinds
 use Rattle.th_tree.specs.declared.tokens.Token.{Token}
@@ -9,14 +7,7 @@ use Rattle.th_tree.specs.declared.lexeme.Mark.{Mark}
 use Rattle.th_tree.specs.declared.lexeme.Mark.TheVariants as marks
 use Rattle.th_tree.specs.declared.lexeme.Lexeme.{Lexeme}
 use Rattle.th_tree.specs.Spans.{bytes_of}
-
--- the place of the bytes in the table; its length where they aren't there
-abbrev pub number_of : List (List ℕ) → List ℕ → ℕ
-number_of table bs = position_or_len (bytes_eq bs) table
-
--- the table with the bytes at its end, unless they are there already
-abbrev pub with_name : List (List ℕ) → List ℕ → List (List ℕ)
-with_name table bs = if list_any (bytes_eq bs) table then table else table ++ bs ∷ []
+use Rattle.th_tree.specs.Names.{place_of, with_name}
 
 -- the bytes that the inside of a literal with its closing quote stands for: an escape is `\n` for a line feed, and else the byte after the backslash
 abbrev pub unescaped : List ℕ → List ℕ
@@ -31,11 +22,11 @@ literal_value (b ∷ bs) = unescaped bs
 
 -- the mark of a token of a kind that is written so
 abbrev pub mark_of : List (List ℕ) → TokenKind → List ℕ → Mark
-mark_of table kinds.Name bs = marks.Name (number_of table bs)
+mark_of table kinds.Name bs = marks.Name (place_of table bs)
 mark_of table (kinds.Word w) bs = marks.Word w
 mark_of table (kinds.Number n) bs = marks.Number n
 mark_of table (kinds.Symbol s) bs = marks.Symbol s
-mark_of table kinds.Text bs = marks.Text (number_of table (literal_value bs))
+mark_of table kinds.Text bs = marks.Text (place_of table (literal_value bs))
 
 -- the lexeme of a token of the text
 abbrev pub lexeme_of : List (List ℕ) → List ℕ → Token → Lexeme
@@ -44,3 +35,16 @@ lexeme_of table text t = record { mark = mark_of table t.kind (bytes_of text t);
 -- the lexemes of tokens of the text
 abbrev pub lexemes_of : List (List ℕ) → List ℕ → List Token → List Lexeme
 lexemes_of table text ts = map (λ t. lexeme_of table text t) ts
+
+-- the table with what a token of a kind that is written so stands for, where it is a name or a literal
+abbrev pub with_token : List (List ℕ) → TokenKind → List ℕ → List (List ℕ)
+with_token table kinds.Name bs = with_name table bs
+with_token table kinds.Text bs = with_name table (literal_value bs)
+with_token table (kinds.Word w) bs = table
+with_token table (kinds.Number n) bs = table
+with_token table (kinds.Symbol s) bs = table
+
+-- the table with the names and the values of the literals of tokens of the text
+abbrev pub with_tokens : List (List ℕ) → List ℕ → List Token → List (List ℕ)
+with_tokens table text [] = table
+with_tokens table text (t ∷ ts) = with_tokens (with_token table t.kind (bytes_of text t)) text ts

@@ -2,9 +2,92 @@
 use Rattle.std.specs.Prelude.{ℕ, ◌+◌, ◌*◌, ◌-◌, Bool, true, false, ◌&&◌, ◌||◌, nat_eq, nat_le, List, [], ◌∷◌, length, Option, Some, None, if◌then◌else◌, codes}
 use Rattle.std.specs.Str.{bytes_eq}
 use Rattle.th_tree.specs.declared.tokens.Reserved.{Reserved}
-use Rattle.th_tree.specs.declared.tokens.Reserved.TheVariants.{KeyModule, KeyInterface, KeyImplements, KeyUses, KeyType, KeyClass, KeyFor, KeyInherits, KeyWhere, KeyHas, KeyException, KeyRoutine, KeyIter, KeyInit, KeyHidden, KeyField, KeyReturns, KeyYields, KeySignals, KeyVar, KeyIf, KeyThen, KeyElseif, KeyElse, KeyEnd, KeyWhile, KeyDo, KeyIn, KeyBreak, KeyReturn, KeyYield, KeyRaise, KeyBegin, KeyExcept, KeyWhen, KeyNew, KeyArray, KeyInt, KeyBool, KeyTrue, KeyFalse, KeySelf, KeySuper, KeyOr, KeyAnd, KeyNot, KeyLength, KeyPutByte, KeyPutInt, KeyGetByte, KeyOverflow, KeyZeroDivide, KeyBounds, KeyEndOfInput, KeyString, KeyPutString}
+use Rattle.th_tree.specs.declared.tokens.Reserved.TheVariants.{
+  KeyModule,
+  KeyInterface,
+  KeyImplements,
+  KeyUses,
+  KeyType,
+  KeyClass,
+  KeyFor,
+  KeyInherits,
+  KeyWhere,
+  KeyHas,
+  KeyException,
+  KeyRoutine,
+  KeyIter,
+  KeyInit,
+  KeyHidden,
+  KeyField,
+  KeyReturns,
+  KeyYields,
+  KeySignals,
+  KeyVar,
+  KeyIf,
+  KeyThen,
+  KeyElseif,
+  KeyElse,
+  KeyEnd,
+  KeyWhile,
+  KeyDo,
+  KeyIn,
+  KeyBreak,
+  KeyReturn,
+  KeyYield,
+  KeyRaise,
+  KeyBegin,
+  KeyExcept,
+  KeyWhen,
+  KeyNew,
+  KeyArray,
+  KeyInt,
+  KeyBool,
+  KeyTrue,
+  KeyFalse,
+  KeySelf,
+  KeySuper,
+  KeyOr,
+  KeyAnd,
+  KeyNot,
+  KeyLength,
+  KeyPutByte,
+  KeyPutInt,
+  KeyGetByte,
+  KeyOverflow,
+  KeyZeroDivide,
+  KeyBounds,
+  KeyEndOfInput,
+  KeyString,
+  KeyPutString,
+}
 use Rattle.th_tree.specs.declared.tokens.Sym.{Sym}
-use Rattle.th_tree.specs.declared.tokens.Sym.TheVariants.{OpenParen, CloseParen, OpenSquare, CloseSquare, OpenBrace, CloseBrace, Comma, Semicolon, Colon, Dot, Dollar, Becomes, Equal, Same, NotEqual, Less, LessEqual, Greater, GreaterEqual, Plus, Minus, Times, Divide, Remainder, Ampersand}
+use Rattle.th_tree.specs.declared.tokens.Sym.TheVariants.{
+  OpenParen,
+  CloseParen,
+  OpenSquare,
+  CloseSquare,
+  OpenBrace,
+  CloseBrace,
+  Comma,
+  Semicolon,
+  Colon,
+  Dot,
+  Dollar,
+  Becomes,
+  Equal,
+  Same,
+  NotEqual,
+  Less,
+  LessEqual,
+  Greater,
+  GreaterEqual,
+  Plus,
+  Minus,
+  Times,
+  Divide,
+  Remainder,
+  Ampersand,
+}
 use Rattle.th_tree.specs.declared.tokens.TokenKind.{TokenKind}
 use Rattle.th_tree.specs.declared.tokens.TokenKind.TheVariants.{Name, Word, Number, Symbol, Text}
 
@@ -97,11 +180,18 @@ sign Ampersand = codes "&"
 
 -- all reserved words
 abbrev pub all_words : List Reserved
-all_words = KeyModule ∷ KeyInterface ∷ KeyImplements ∷ KeyUses ∷ KeyType ∷ KeyClass ∷ KeyFor ∷ KeyInherits ∷ KeyWhere ∷ KeyHas ∷ KeyException ∷ KeyRoutine ∷ KeyIter ∷ KeyInit ∷ KeyHidden ∷ KeyField ∷ KeyReturns ∷ KeyYields ∷ KeySignals ∷ KeyVar ∷ KeyIf ∷ KeyThen ∷ KeyElseif ∷ KeyElse ∷ KeyEnd ∷ KeyWhile ∷ KeyDo ∷ KeyIn ∷ KeyBreak ∷ KeyReturn ∷ KeyYield ∷ KeyRaise ∷ KeyBegin ∷ KeyExcept ∷ KeyWhen ∷ KeyNew ∷ KeyArray ∷ KeyInt ∷ KeyBool ∷ KeyTrue ∷ KeyFalse ∷ KeySelf ∷ KeySuper ∷ KeyOr ∷ KeyAnd ∷ KeyNot ∷ KeyLength ∷ KeyPutByte ∷ KeyPutInt ∷ KeyGetByte ∷ KeyOverflow ∷ KeyZeroDivide ∷ KeyBounds ∷ KeyEndOfInput ∷ KeyString ∷ KeyPutString ∷ []
+all_words =
+    KeyModule ∷ KeyInterface ∷ KeyImplements ∷ KeyUses ∷ KeyType ∷ KeyClass ∷ KeyFor ∷ KeyInherits ∷ KeyWhere ∷ KeyHas ∷ KeyException
+    ∷ KeyRoutine ∷ KeyIter ∷ KeyInit ∷ KeyHidden ∷ KeyField ∷ KeyReturns ∷ KeyYields ∷ KeySignals ∷ KeyVar ∷ KeyIf ∷ KeyThen ∷
+    KeyElseif ∷ KeyElse ∷ KeyEnd ∷ KeyWhile ∷ KeyDo ∷ KeyIn ∷ KeyBreak ∷ KeyReturn ∷ KeyYield ∷ KeyRaise ∷ KeyBegin ∷ KeyExcept ∷
+    KeyWhen ∷ KeyNew ∷ KeyArray ∷ KeyInt ∷ KeyBool ∷ KeyTrue ∷ KeyFalse ∷ KeySelf ∷ KeySuper ∷ KeyOr ∷ KeyAnd ∷ KeyNot ∷ KeyLength ∷
+    KeyPutByte ∷ KeyPutInt ∷ KeyGetByte ∷ KeyOverflow ∷ KeyZeroDivide ∷ KeyBounds ∷ KeyEndOfInput ∷ KeyString ∷ KeyPutString ∷ []
 
 -- all symbols
 abbrev pub all_symbols : List Sym
-all_symbols = OpenParen ∷ CloseParen ∷ OpenSquare ∷ CloseSquare ∷ OpenBrace ∷ CloseBrace ∷ Comma ∷ Semicolon ∷ Colon ∷ Dot ∷ Dollar ∷ Becomes ∷ Equal ∷ Same ∷ NotEqual ∷ Less ∷ LessEqual ∷ Greater ∷ GreaterEqual ∷ Plus ∷ Minus ∷ Times ∷ Divide ∷ Remainder ∷ Ampersand ∷ []
+all_symbols =
+    OpenParen ∷ CloseParen ∷ OpenSquare ∷ CloseSquare ∷ OpenBrace ∷ CloseBrace ∷ Comma ∷ Semicolon ∷ Colon ∷ Dot ∷ Dollar ∷ Becomes ∷
+    Equal ∷ Same ∷ NotEqual ∷ Less ∷ LessEqual ∷ Greater ∷ GreaterEqual ∷ Plus ∷ Minus ∷ Times ∷ Divide ∷ Remainder ∷ Ampersand ∷ []
 
 -- the first of some things that is written as these bytes
 abbrev pub written_as : {A : Type 0} → (A → List ℕ) → List A → List ℕ → Option A
@@ -135,9 +225,9 @@ is_inner b = is_letter b || (is_digit b || nat_eq b 95)
 abbrev pub is_blank : ℕ → Bool
 is_blank b = nat_eq b 32 || (nat_eq b 9 || (nat_eq b 10 || nat_eq b 13))
 
--- a byte that stands for itself in a literal: 32 to 126, neither `"` nor a backslash
-abbrev pub is_plain : ℕ → Bool
-is_plain b = within 32 126 b && (if nat_eq b 34 || nat_eq b 92 then false else true)
+-- a byte of printed text, 32 to 126
+abbrev pub is_printed : ℕ → Bool
+is_printed b = within 32 126 b
 
 -- n, `"` or a backslash, which may follow a backslash
 abbrev pub is_escape : ℕ → Bool
@@ -159,10 +249,10 @@ value n [] = n
 value n (b ∷ bs) = value (n * 10 + (b - 48)) bs
 
 abbrev mutual
-  -- what follows the opening quote of a literal: plain bytes and escapes, and the closing quote at the very end
+  -- what follows the opening quote of a literal: printed bytes and escapes, and a quote at the very end, where the only quotes and backslashes before it are in escapes
   pub closes : List ℕ → Bool
   closes [] = false
-  closes (b ∷ bs) = if nat_eq b 34 then nat_eq (length bs) 0 else (if nat_eq b 92 then escape_closes bs else is_plain b && closes bs)
+  closes (b ∷ bs) = if nat_eq b 34 then nat_eq (length bs) 0 else (if nat_eq b 92 then escape_closes bs else is_printed b && closes bs)
 
   -- the same after a backslash
   pub escape_closes : List ℕ → Bool

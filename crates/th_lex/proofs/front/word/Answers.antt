@@ -1,4 +1,4 @@
-use Rattle.std.proofs.Common.{◌≡◌, ◌≤◌, length, take, drop, Option, sym, subst}
+use Rattle.std.proofs.Common.{◌≤◌, length, take, drop, Option, sym, subst}
 use Rattle.th_tree.specs.declared.tokens.Reserved.{Reserved}
 use Rattle.th_tree.specs.Tokens.{word_kind}
 use Rattle.th_tree.specs.Cut.{Longest}

@@ -1,5 +1,4 @@
-use Rattle.std.proofs.Common.{sym, ◌∙◌, ◌≤◌, length, arith}
-use Rattle.th_tree.specs.Tokens.{spelling}
+use Rattle.std.proofs.Common.{sym, ◌∙◌, arith}
 use Rattle.th_lex.proofs.ByLength.{reserved_by_length, word_lengths, no_word}
 use Rattle.th_lex.proofs.words.reserved.Goals as goal
 

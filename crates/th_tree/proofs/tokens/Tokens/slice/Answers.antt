@@ -1,5 +1,5 @@
-use Rattle.std.proofs.Common.{rules, ◌≡◌, ◌<◌, ℕ, length, slice_get, slice_index_or, ◌≤◌, Some, sym, ap, subst, ◌∙◌, arith, take, drop, ◌-◌, refl, List}
-use Rattle.th_tree.specs.Spans.{InOrder, bytes_of, Tokenized}
+use Rattle.std.proofs.Common.{rules, ◌≡◌, ◌<◌, ℕ, length, slice_get, slice_index_or, Some, sym, ap, subst, ◌∙◌, arith, refl, List}
+use Rattle.th_tree.specs.Spans.{InOrder, Tokenized}
 use Rattle.th_tree.specs.declared.tokens.Token.{Token}
 use Rattle.th_tree.proofs.Spans.{Within, within, get_index}
 use Rattle.th_tree.proofs.tokens.Tokens.slice.Goals as goal

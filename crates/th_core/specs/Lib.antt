@@ -1,0 +1,10 @@
+pub mod Tree
+pub mod Names
+pub mod Counts
+pub mod World
+pub mod Meaning
+pub mod Fits
+pub mod Puts
+pub mod Units
+pub mod Run
+pub mod Steps

@@ -1,0 +1,6 @@
+use Rattle.std.proofs.Common.{◌≡◌, ◌++◌, take}
+use Rattle.th_elf.specs.Written.{words_bytes}
+use Rattle.th_elf.proofs.write.put_words.Given as goal
+
+abbrev pub invariant-loop-word : goal.invariant-loop-word
+invariant-loop-word l = l.file.items ≡ l.fn.file.items ++ words_bytes (take l.word-index l.words)

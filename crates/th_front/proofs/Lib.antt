@@ -1,0 +1,4 @@
+pub mod Lookup
+pub mod Lists
+pub mod Names
+pub mod Lexed

@@ -1,0 +1,5 @@
+pub mod Fetch
+pub mod Spots
+pub mod Follows
+pub mod InTime
+pub mod Linked

@@ -1,0 +1,5 @@
+pub mod Areas
+pub mod Names
+pub mod Gets
+pub mod Turns
+pub mod Joined

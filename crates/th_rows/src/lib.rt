@@ -1,0 +1,24 @@
+//! Tests of the public functions of the other crates: tables of cases, whose expected values come
+//! from outside. README.md says from where.
+#![tactic(auto)]
+
+#[cfg(test)]
+mod commands;
+#[cfg(test)]
+mod executables;
+#[cfg(test)]
+mod instructions;
+#[cfg(test)]
+mod machine;
+#[cfg(test)]
+mod outside;
+#[cfg(test)]
+mod programs;
+#[cfg(test)]
+mod samples;
+#[cfg(test)]
+mod tokens;
+#[cfg(test)]
+mod watchers;
+#[cfg(test)]
+mod words;

@@ -1,0 +1,3 @@
+pub mod AfterLemmas
+pub mod TailLemmas
+pub mod WatchLemmas

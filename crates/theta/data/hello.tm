@@ -1,0 +1,1 @@
+module hello; routine main() put_byte(72); end end
