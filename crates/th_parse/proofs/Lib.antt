@@ -12,3 +12,5 @@ pub mod StmtLaws
 pub mod Loops
 pub mod Rooms
 pub mod Exact
+pub mod Tables
+pub mod Bodies

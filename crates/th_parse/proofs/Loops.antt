@@ -20,13 +20,13 @@ pub with_none : {B : Type 0} (onto : B → B → B) (none : B) → ((b : B) → 
 with_none onto none l (Got b rest) = ap (λ y. Got y rest) (sym (l b))
 with_none onto none l (Bad rest) = refl
 
-module _ {A B : Type 0} (c : Mark) (item : ℕ → P A) (more : A → B → B) (none : B) (onto : B → B → B) (law : (a : A) (b done : B) → onto (more a b) done ≡ onto b (more a done)) where
-  back_one : (b : B) (a : A) (x : Res B) → with_back onto b (bind x (λ bs rest. Got (more a bs) rest)) ≡ with_back onto (more a b) x
+module _ {A B : Type 0} (c : Mark) (item : ℕ → P A) (more : A → B → B) (none : B) (onto : B → B → B) (add : B → A → B) (law : (a : A) (b done : B) → onto (add b a) done ≡ onto b (more a done)) where
+  back_one : (b : B) (a : A) (x : Res B) → with_back onto b (bind x (λ bs rest. Got (more a bs) rest)) ≡ with_back onto (add b a) x
   back_one b a (Got bs rest) = ap (λ y. Got y rest) (sym (law a b bs))
   back_one b a (Bad rest) = refl
 
   pub one_item : (m i n p : ℕ) (b : B) (a : A) (ts after next : List Lexeme) (total : Res B) → i < m → item n ts ≡ Got a after → is_mark c (peek after) ≡ true → mark c after ≡ Got p next
-      → total ≡ with_back onto b (listed c item more none (m - i) n ts) → total ≡ with_back onto (more a b) (listed c item more none (m - (i + 1)) n next)
+      → total ≡ with_back onto b (listed c item more none (m - i) n ts) → total ≡ with_back onto (add b a) (listed c item more none (m - (i + 1)) n next)
   one_item m i n p b a ts after next total l e j k d =
       let z : m - i ≡ suc (m - (i + 1)) = omega arith in
       let s = after_mark c after next p j k in
@@ -41,14 +41,14 @@ module _ {A B : Type 0} (c : Mark) (item : ℕ → P A) (more : A → B → B) (
             rw (e1, j1) refl
 
   pub last_item : (m i n : ℕ) (b : B) (a : A) (ts after : List Lexeme) (total : Res B) → i < m → item n ts ≡ Got a after → is_mark c (peek after) ≡ false
-      → total ≡ with_back onto b (listed c item more none (m - i) n ts) → total ≡ Got (onto (more a b) none) after
+      → total ≡ with_back onto b (listed c item more none (m - i) n ts) → total ≡ Got (onto (add b a) none) after
   last_item m i n b a ts after total l e j d =
       let z : m - i ≡ suc (m - (i + 1)) = omega arith in
       let d1 : total ≡ with_back onto b (listed c item more none (suc (m - (i + 1))) n ts) = subst (λ q. total ≡ with_back onto b (listed c item more none q n ts)) z d in
       d1 ∙ (rw (e, j) refl ∙ ap (λ y. Got y after) (sym (law a b none)))
 
   pub end_item : (m i n : ℕ) (b : B) (a : A) (ts after : List Lexeme) (total : Res B) → i ≡ m → item n ts ≡ Got a after
-      → total ≡ with_back onto b (listed c item more none (m - i) n ts) → total ≡ Got (onto (more a b) none) after
+      → total ≡ with_back onto b (listed c item more none (m - i) n ts) → total ≡ Got (onto (add b a) none) after
   end_item m i n b a ts after total l e d =
       let z : m - i ≡ 0 = omega arith in
       let d1 : total ≡ with_back onto b (listed c item more none 0 n ts) = subst (λ q. total ≡ with_back onto b (listed c item more none q n ts)) z d in
@@ -87,13 +87,13 @@ module _ {A : Type 0} (test : Option Mark → Bool) (goes : A → Bool) (step : 
       d1 ∙ rw (j, g, f) refl
 
 -- the turns of the loops over any number of items
-module _ {A B : Type 0} (test : Option Mark → Bool) (item : ℕ → P A) (more : A → B → B) (last : ℕ → P B) (onto : B → B → B) (law : (a : A) (b done : B) → onto (more a b) done ≡ onto b (more a done)) where
-  many_back : (b : B) (a : A) (x : Res B) → with_back onto b (bind x (λ bs rest. Got (more a bs) rest)) ≡ with_back onto (more a b) x
+module _ {A B : Type 0} (test : Option Mark → Bool) (item : ℕ → P A) (more : A → B → B) (last : ℕ → P B) (onto : B → B → B) (add : B → A → B) (law : (a : A) (b done : B) → onto (add b a) done ≡ onto b (more a done)) where
+  many_back : (b : B) (a : A) (x : Res B) → with_back onto b (bind x (λ bs rest. Got (more a bs) rest)) ≡ with_back onto (add b a) x
   many_back b a (Got bs rest) = ap (λ y. Got y rest) (sym (law a b bs))
   many_back b a (Bad rest) = refl
 
   pub one_more : (m i n : ℕ) (b : B) (a : A) (ts after : List Lexeme) (total : Res B) → i < m → test (peek ts) ≡ true → item n ts ≡ Got a after
-      → total ≡ with_back onto b (many test item more last (m - i) n ts) → total ≡ with_back onto (more a b) (many test item more last (m - (i + 1)) n after)
+      → total ≡ with_back onto b (many test item more last (m - i) n ts) → total ≡ with_back onto (add b a) (many test item more last (m - (i + 1)) n after)
   one_more m i n b a ts after total l j e d =
       let z : m - i ≡ suc (m - (i + 1)) = omega arith in
       let d1 : total ≡ with_back onto b (many test item more last (suc (m - (i + 1))) n ts) = subst (λ q. total ≡ with_back onto b (many test item more last q n ts)) z d in

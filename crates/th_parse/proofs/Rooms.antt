@@ -5,7 +5,7 @@ use Rattle.th_tree.specs.Trees.{TypeSyn, TypeSyns, no_type, more_types, type_hei
 use Rattle.th_tree.specs.Onto.{types_onto, exprs_onto}
 use Rattle.th_tree.specs.Grammar.{Form, Found, Founds, no_founds, more_founds}
 use Rattle.th_parse.specs.Read.{Res, P}
-use Rattle.th_parse.specs.Parse.{read_type, type_of, read_named, named_type_of, read_form, form_of, read_body, stmt_of}
+use Rattle.th_parse.specs.Parse.{read_type, type_of, read_named, named_type_of, read_form, form_of, read_body, stmts_of}
 
 pub type_room : (room n : ℕ) (ts : List Lexeme) → room ≢ 0 → read_type room n ts ≡ type_of (room - 1) (read_type (room - 1)) n ts
 type_room zero n ts h = absurd (h refl)
@@ -59,3 +59,7 @@ founds_grown a es h l e = let z : max a.height h ≡ l = omega arith in ap (λ x
 
 pub founds_turned : (a : Found) (es : ExprSyns) (h l : ℕ) → l ≡ max h a.height → founds_onto (more_founds a (founds es h)) no_founds ≡ founds (exprs_onto (more_exprs a.tree es) no_expr) l
 founds_turned a es h l e = let z : max (max a.height h) 0 ≡ l = omega arith in ap (λ x. founds (exprs_onto (more_exprs a.tree es) no_expr) x) z
+
+pub body_room : (room n : ℕ) (ts : List Lexeme) → room ≢ 0 → read_body room n ts ≡ stmts_of (room - 1) (read_body (room - 1)) n ts
+body_room zero n ts h = absurd (h refl)
+body_room (suc r) n ts h = let e : suc r - 1 ≡ r = omega arith in rw e refl

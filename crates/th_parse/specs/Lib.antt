@@ -4,3 +4,5 @@ pub mod Gives
 pub mod Lists
 pub mod Founds
 pub mod Parts
+pub mod Grown
+pub mod Answer

@@ -1,11 +1,11 @@
 -- The grammar of types, expressions and statements: one definition for each form, with its production above it.
 -- A height stands at each form: its trees are those up to this height, and their parts are lower by one.
-use Rattle.std.specs.Prelude.{◌≡◌, ℕ, zero, suc, ◌≤◌, max, List, [], ◌∷◌, Option, Some, None}
+use Rattle.std.specs.Prelude.{◌≡◌, ℕ, zero, suc, ◌≤◌, max, Bool, true, false, List, [], ◌∷◌, Option, Some, None}
 use Rattle.th_tree.specs.declared.tokens.Reserved.TheVariants.{KeyArray, KeyInt, KeyBool, KeyString, KeyVar, KeyIf, KeyThen, KeyElseif, KeyElse, KeyEnd, KeyWhile, KeyFor, KeyIn, KeyDo, KeyBreak, KeyReturn, KeyYield, KeyRaise, KeyBegin, KeyExcept, KeyWhen, KeyNew, KeyTrue, KeyFalse, KeySelf, KeySuper, KeyOr, KeyAnd, KeyNot, KeyLength, KeyPutByte, KeyPutInt, KeyPutString, KeyGetByte, KeyOverflow, KeyZeroDivide, KeyBounds, KeyEndOfInput}
 use Rattle.th_tree.specs.declared.tokens.Sym.TheVariants.{OpenParen, CloseParen, OpenSquare, CloseSquare, OpenBrace, CloseBrace, Comma, Semicolon, Colon, Dot, Dollar, Becomes}
 use Rattle.th_tree.specs.declared.tokens.Sym.TheVariants as signs
 use Rattle.th_tree.specs.declared.lexeme.Mark.{Mark}
-use Rattle.th_tree.specs.declared.lexeme.Mark.TheVariants.{Word, Number, Symbol, Text}
+use Rattle.th_tree.specs.declared.lexeme.Mark.TheVariants.{Name, Word, Number, Symbol, Text}
 use Rattle.th_tree.specs.declared.tree.Ident.{Ident}
 use Rattle.th_tree.specs.declared.tree.RefTree.{RefTree}
 use Rattle.th_tree.specs.declared.tree.BinaryOp.{BinaryOp}
@@ -361,5 +361,31 @@ abbrev pub BodyAt : ℕ → Lang BodySyn
 BodyAt r = Many (StmtAt r) more_stmts (Done no_stmt)
 
 -- no tree of a greater height is in the grammar
-abbrev pub height_limit : ℕ
+unfoldable pub height_limit : ℕ
 height_limit = 600
+
+-- whether a statement may begin with the mark
+abbrev pub begins_statement : Option Mark → Bool
+begins_statement (Some (Name n)) = true
+begins_statement (Some (Number n)) = true
+begins_statement (Some (Text n)) = true
+begins_statement (Some (Symbol OpenParen)) = true
+begins_statement (Some (Word KeyTrue)) = true
+begins_statement (Some (Word KeyFalse)) = true
+begins_statement (Some (Word KeySelf)) = true
+begins_statement (Some (Word KeySuper)) = true
+begins_statement (Some (Word KeyNew)) = true
+begins_statement (Some (Word KeyGetByte)) = true
+begins_statement (Some (Word KeyVar)) = true
+begins_statement (Some (Word KeyIf)) = true
+begins_statement (Some (Word KeyWhile)) = true
+begins_statement (Some (Word KeyFor)) = true
+begins_statement (Some (Word KeyBreak)) = true
+begins_statement (Some (Word KeyReturn)) = true
+begins_statement (Some (Word KeyYield)) = true
+begins_statement (Some (Word KeyRaise)) = true
+begins_statement (Some (Word KeyBegin)) = true
+begins_statement (Some (Word KeyPutByte)) = true
+begins_statement (Some (Word KeyPutInt)) = true
+begins_statement (Some (Word KeyPutString)) = true
+begins_statement _ = false

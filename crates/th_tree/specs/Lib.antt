@@ -10,3 +10,4 @@ pub mod Declarations
 pub mod Numbered
 pub mod Verdict
 pub mod Onto
+pub mod DeclView

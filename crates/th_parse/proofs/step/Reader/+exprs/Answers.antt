@@ -63,14 +63,14 @@ postfix-loop-preserved t c =
 
 pub exprs-returns-then-not-at_symbol-clause-gives : goal.exprs-returns-then-not-at_symbol-clause-gives
 exprs-returns-then-not-at_symbol-clause-gives t c =
-    let all = last_item (Symbol Comma) (read_form c.args.r Expr) more_founds no_founds founds_onto founds_law c.args.self.most c.loop.counter c.args.self.most (founds (exprs_of c.loop.back) c.loop.height) (read_of c.in_ok-one.one) c.loop.rest.now c.in_ok-one.after.now
+    let all = last_item (Symbol Comma) (read_form c.args.r Expr) more_founds no_founds founds_onto (λ b a. more_founds a b) founds_law c.args.self.most c.loop.counter c.args.self.most (founds (exprs_of c.loop.back) c.loop.height) (read_of c.in_ok-one.one) c.loop.rest.now c.in_ok-one.after.now
       (expr_list c.args.r c.args.self.most c.args.tokens.now) c.loop-test.true c.in_ok-one.ensures.gives c.if-not-at_symbol.ensures c.loop.invariant.0 in
     all ∙ (ap (λ x. Got x c.in_ok-one.after.now) (founds_turned (read_of c.in_ok-one.one) (exprs_of c.loop.back) c.loop.height c.larger-height.result c.larger-height.ensures)
       ∙ rw (c.turned.ensures, c.in_ok-back.ensures) refl)
 
 pub exprs-loop-preserved : goal.exprs-loop-preserved
 exprs-loop-preserved t c =
-    let turn = one_item (Symbol Comma) (read_form c.args.r Expr) more_founds no_founds founds_onto founds_law c.args.self.most c.loop.counter c.args.self.most c.in_ok-next.field-0-0 (founds (exprs_of c.loop.back) c.loop.height) (read_of c.in_ok-one.one) c.loop.rest.now
+    let turn = one_item (Symbol Comma) (read_form c.args.r Expr) more_founds no_founds founds_onto (λ b a. more_founds a b) founds_law c.args.self.most c.loop.counter c.args.self.most c.in_ok-next.field-0-0 (founds (exprs_of c.loop.back) c.loop.height) (read_of c.in_ok-one.one) c.loop.rest.now
       c.in_ok-one.after.now c.in_ok-next.next.now (expr_list c.args.r c.args.self.most c.args.tokens.now) c.loop-test.true c.in_ok-one.ensures.gives c.if-not-at_symbol.ensures c.in_ok-next.ensures c.loop.invariant.0 in
     let same = founds_grown (read_of c.in_ok-one.one) (exprs_of c.loop.back) c.loop.height c.larger-height.result c.larger-height.ensures in
     (turn ∙ ap (λ b. with_back founds_onto b (listed (Symbol Comma) (read_form c.args.r Expr) more_founds no_founds (c.args.self.most - (c.loop.counter + 1)) c.args.self.most c.in_ok-next.next.now))

@@ -17,12 +17,12 @@ type_tree-returns-clause-gives t c = rw (type_room c.args.room c.args.self.most 
 pub types-returns-in_err-one-clause-gives : goal.types-returns-in_err-one-clause-gives
 types-returns-in_err-one-clause-gives t c =
     let p = err_from_is_err_and c.from_residual.result c.from_residual.ensures.1 in
-    rw (p.1, p.2) (bad_item (Symbol Comma) (read_type c.args.r) more_types no_type types_onto (λ a b done. refl) (c.args.self.most - c.loop.counter) c.args.self.most (types_of c.loop.back) c.loop.rest.now
+    rw (p.1, p.2) (bad_item (Symbol Comma) (read_type c.args.r) more_types no_type types_onto (λ b a. more_types a b) (λ a b done. refl) (c.args.self.most - c.loop.counter) c.args.self.most (types_of c.loop.back) c.loop.rest.now
       (type_list c.args.r c.args.self.most c.args.tokens.now) c.in_err-one.field-0.0 c.in_err-one.ensures.gives c.loop.invariant.0)
 
 pub types-returns-then-not-at_symbol-clause-gives : goal.types-returns-then-not-at_symbol-clause-gives
 types-returns-then-not-at_symbol-clause-gives t c =
-    let all = last_item (Symbol Comma) (read_type c.args.r) more_types no_type types_onto (λ a b done. refl) c.args.self.most c.loop.counter c.args.self.most (types_of c.loop.back) (type_of c.in_ok-one.one.tree) c.loop.rest.now c.in_ok-one.after.now
+    let all = last_item (Symbol Comma) (read_type c.args.r) more_types no_type types_onto (λ b a. more_types a b) (λ a b done. refl) c.args.self.most c.loop.counter c.args.self.most (types_of c.loop.back) (type_of c.in_ok-one.one.tree) c.loop.rest.now c.in_ok-one.after.now
       (type_list c.args.r c.args.self.most c.args.tokens.now) c.loop-test.true c.in_ok-one.ensures.gives c.if-not-at_symbol.ensures c.loop.invariant.0 in
     rw (c.turned.ensures, c.in_ok-back.ensures) all
 
@@ -33,7 +33,7 @@ types-returns-then-not-at_symbol-clause-height t c =
 
 pub types-loop-preserved : goal.types-loop-preserved
 types-loop-preserved t c =
-    let turn = one_item (Symbol Comma) (read_type c.args.r) more_types no_type types_onto (λ a b done. refl) c.args.self.most c.loop.counter c.args.self.most c.in_ok-next.field-0-0 (types_of c.loop.back) (type_of c.in_ok-one.one.tree) c.loop.rest.now
+    let turn = one_item (Symbol Comma) (read_type c.args.r) more_types no_type types_onto (λ b a. more_types a b) (λ a b done. refl) c.args.self.most c.loop.counter c.args.self.most c.in_ok-next.field-0-0 (types_of c.loop.back) (type_of c.in_ok-one.one.tree) c.loop.rest.now
       c.in_ok-one.after.now c.in_ok-next.next.now (type_list c.args.r c.args.self.most c.args.tokens.now) c.loop-test.true c.in_ok-one.ensures.gives c.if-not-at_symbol.ensures c.in_ok-next.ensures c.loop.invariant.0 in
     (rw c.in_ok-back.ensures turn,
     grown_height c.loop.height c.in_ok-one.one.height c.larger-height.result (type_of c.in_ok-one.one.tree) (types_of c.loop.back) (types_of c.in_ok-back.back) c.larger-height.ensures c.loop.invariant.1 c.in_ok-one.ensures.height c.in_ok-back.ensures,
