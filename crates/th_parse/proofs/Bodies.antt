@@ -1,5 +1,5 @@
 -- The answer of the parser of statements.
-use Rattle.std.proofs.Common.{◌≡◌, ℕ, zero, suc, ◌≤◌, ◌<◌, ◌+◌, Bool, true, false, nat_lt, List, [], ◌∷◌, ◌++◌, length, Option, Some, None, refl, sym, ◌∙◌, subst, ap, append-nil, length-append, le_refl, arith, if◌then◌else◌}
+use Rattle.std.proofs.Common.{◌≡◌, ℕ, zero, suc, ◌≤◌, ◌<◌, ◌+◌, Bool, true, false, nat_lt, List, [], ◌∷◌, ◌++◌, length, drop, ◌-◌, Option, Some, None, refl, sym, ◌∙◌, subst, ap, append-nil, length-append, le_refl, arith, if◌then◌else◌}
 use Rattle.th_tree.specs.declared.tokens.Reserved.TheVariants.{KeyVar}
 use Rattle.th_tree.specs.declared.tokens.Sym.TheVariants.{OpenParen}
 use Rattle.th_tree.specs.declared.lexeme.Mark.{Mark}
@@ -8,6 +8,9 @@ use Rattle.th_tree.specs.declared.lexeme.Lexeme.{Lexeme}
 use Rattle.th_tree.specs.Trees.{TypeSyn, NamedSyn, BodySyn, no_stmt, more_stmts}
 use Rattle.th_tree.specs.Forms.{Many}
 use Rattle.th_tree.specs.Grammar.{Form, Expr, Conj, Neg, Rel, Sum, Term, Unary, Post, Atom, Found, TypeAt, NamedAt, FormAt, BodyAt, begins_statement}
+use Rattle.std.proofs.lemmas.List.{length-drop}
+use Rattle.th_tree.specs.declared.tokens.Token.{Token}
+use Rattle.th_tree.specs.Numbered.{lexemes_of}
 use Rattle.th_tree.specs.Verdict.{FirstWrong}
 use Rattle.th_parse.specs.Read.{Res, Got, Bad, P, bind, peek, member, in_set, many, ret}
 use Rattle.th_parse.specs.Parse.{read_body, stmts_of, stmt_of, stmt_first}
@@ -15,6 +18,7 @@ use Rattle.th_parse.specs.Answer.{statement_next, BodyFront, OneTree}
 use Rattle.th_parse.proofs.Good.{Good, goods, bads}
 use Rattle.th_parse.proofs.Law.{Law}
 use Rattle.th_parse.proofs.Repeat.{one_long}
+use Rattle.th_parse.proofs.Tables.{lexemes_length}
 use Rattle.th_parse.proofs.Exact.{unique, front_of, refused}
 use Rattle.th_parse.proofs.TypeLaws.{law_type, law_named, none_type, none_named}
 use Rattle.th_parse.proofs.ExprLaws.{law_form, none_form, form_more}
@@ -108,3 +112,17 @@ one_tree limit = go (nat_lt 0 limit) refl where
     expressions = λ F ts a b h i. absurd (none_form limit s F a ts h);
     bodies = λ ts a b h i. unique (law_body limit) refl a b ts h i
   }
+
+pub same_length : (found ts : List Lexeme) (n : ℕ) → ts ≡ found → n ≡ length found → length ts ≤ n
+same_length found ts n e d = let z : length ts ≡ length found = ap (λ x. length x) e in omega arith
+
+-- what is left is no longer than all the tokens
+pub left_short : (limit n : ℕ) (table : List (List ℕ)) (text : List ℕ) (from : ℕ) (all : List Token) (found ts rest : List Lexeme) (b : BodySyn) → found ≡ lexemes_of table text (drop from all) → ts ≡ found → n ≡ length found
+    → read_body limit n ts ≡ Got b rest → (m : ℕ) → m ≡ length all → length rest ≤ m
+left_short limit n table text from all found ts rest b e d k i m j =
+    let g = front_of (law_body limit) refl n ts b rest i in
+    let x : length ts ≡ length (g.0 ++ rest) = ap (λ x. length x) g.1 in
+    let y : length ts ≡ length (lexemes_of table text (drop from all)) = ap (λ x. length x) (d ∙ e) in
+    let z : length (lexemes_of table text (drop from all)) ≡ length (drop from all) = lexemes_length table text (drop from all) in
+    let w : length (drop from all) ≡ length all - from = length-drop from all in
+    omega (arith, length-append g.0 rest, x, y, z, w)

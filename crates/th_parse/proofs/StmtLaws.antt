@@ -110,7 +110,7 @@ module _ (r : ℕ) (SubBody : Lang BodySyn) (sub : ℕ → P BodySyn) (law_sub :
   law_put : (m : Mark) → Exact m → (make : ℕ → ExprSyn → StmtSyn) → room ≡ true → Law (PutStmt r SubBody m make) (put_of r sub m make) (code m ∷ []) false []
   law_put m x make e = law_then (law_the m x) (λ p xs h. law_then (law_between (Symbol OpenParen) (Symbol CloseParen) tt tt (law_form r e Expr) refl) (λ a ys i. law_after (Symbol Semicolon) tt (law_done (make p a.tree))) refl) refl
 
-  law_stmt_of : Law (AStmt r SubBody) (stmt_of r sub) stmt_first false []
+  pub law_stmt_of : Law (AStmt r SubBody) (stmt_of r sub) stmt_first false []
   law_stmt_of = law_weak
     (law_first_if room law_var (λ e. none_next (λ p. none_then (none_formal r e)))
     (law_first_if room law_if (λ e. none_next (λ p. none_then (none_form r e Expr)))

@@ -1,9 +1,12 @@
 -- Numbers in a table stay as it grows.
-use Rattle.std.proofs.Common.{◌≡◌, ℕ, zero, suc, ◌+◌, ◌≤◌, Bool, true, false, ◌||◌, List, [], ◌∷◌, ◌++◌, length, map, refl, sym, ◌∙◌, subst, ap, append_assoc, append-nil, length-append, if◌then◌else◌, arith, eq-eqb}
+use Rattle.std.proofs.Common.{◌≡◌, ℕ, zero, suc, ◌+◌, ◌≤◌, Bool, true, false, ◌||◌, List, [], ◌∷◌, ◌++◌, length, map, refl, sym, ◌∙◌, subst, ap, append_assoc, append-nil, length-append, if◌then◌else◌, arith, eq-eqb, ◌<◌, drop, get_or, slice_get, Option, Some}
 use Rattle.std.specs.Str.{bytes_eq}
+use Rattle.std.proofs.lemmas.Option.{slice_get-get_or}
+use Rattle.std.proofs.lemmas.List.{drop_more}
 use Rattle.th_tree.specs.declared.tokens.TokenKind.{TokenKind}
 use Rattle.th_tree.specs.declared.tokens.TokenKind.TheVariants as kinds
 use Rattle.th_tree.specs.declared.tokens.Token.{Token}
+use Rattle.th_tree.specs.declared.lexeme.Mark.{Mark}
 use Rattle.th_tree.specs.declared.lexeme.Mark.TheVariants as marks
 use Rattle.th_tree.specs.declared.lexeme.Lexeme.{Lexeme}
 use Rattle.th_tree.specs.Spans.{bytes_of}
@@ -145,3 +148,41 @@ numbering_goes old text all left t table new found more l n e h i j =
     grown = (n.grown.0 ++ g.0, same ∙ (ap (λ y. y ++ g.0) n.grown.1 ∙ append_assoc old n.grown.0 g.0));
     short = subst (λ y. length y ≤ length old + length (n.front ++ t ∷ [])) (sym e) (omega (arith, token_short table t.kind (bytes_of text t), n.short, length-append n.front (t ∷ [])))
   }
+
+pub number_is : (old new : List (List ℕ)) (n : List ℕ) (i : ℕ) → i ≡ place_of old n → new ≡ with_name old n → i ≡ place_of new n
+number_is old new n i e d = e ∙ (name_place old n ∙ ap (λ t. place_of t n) (sym d))
+
+pub number_there : (old new : List (List ℕ)) (n : List ℕ) → new ≡ with_name old n → is_there new n ≡ true
+number_there old new n d = subst (λ t. is_there t n ≡ true) (sym d) (name_there old n)
+
+pub numbering_room : (old : List (List ℕ)) (text : List ℕ) (all left : List Token) (table : List (List ℕ)) (found : List Lexeme) → Numbering old text all left table found → length table ≤ length old + length all
+numbering_room old text all left table found n =
+    let d : length all ≡ length (n.front ++ left) = ap (λ x. length x) n.split in omega (arith, n.short, length-append n.front left)
+
+pub grown_then : (old table new : List (List ℕ)) (k : TokenKind) (bs : List ℕ) → Grown old table → new ≡ with_token table k bs → Grown old new
+grown_then old table new k bs g e =
+    let h = token_grown table k bs in (g.0 ++ h.0, e ∙ (h.1 ∙ (ap (λ t. t ++ h.0) g.1 ∙ append_assoc old g.0 h.0)))
+
+pub lexemes_length : (table : List (List ℕ)) (text : List ℕ) (ts : List Token) → length (lexemes_of table text ts) ≡ length ts
+lexemes_length table text [] = refl
+lexemes_length table text (t ∷ ts) = ap (λ n. suc n) (lexemes_length table text ts)
+
+-- the token that stands for none
+abbrev pub no_token : Token
+no_token = record { kind = kinds.Name; start = 0; end = 0 }
+
+-- one more token is numbered
+pub numbering_step : (old : List (List ℕ)) (text : List ℕ) (list slice : List Token) (from k : ℕ) (table new : List (List ℕ)) (found more : List Lexeme) (bs : List ℕ) (mk : Mark)
+    → Numbering old text (drop from list) (drop k list) table found → slice ≡ list → k < length list → ((t : Token) → slice_get list k ≡ Some t → bs ≡ bytes_of text t)
+    → new ≡ with_token table (get_or slice k no_token).kind bs → TokenThere new (get_or slice k no_token).kind bs → mk ≡ mark_of new (get_or slice k no_token).kind bs
+    → more ≡ found ++ record { mark = mk; at = (get_or slice k no_token).start } ∷ [] → Numbering old text (drop from list) (drop (k + 1) list) new more
+numbering_step old text list slice from k table new found more bs mk n s l b e h i j =
+    go (get_or slice k no_token) (ap (λ y. get_or y k no_token) s) e h i j where
+      go : (t : Token) → t ≡ get_or list k no_token → new ≡ with_token table t.kind bs → TokenThere new t.kind bs → mk ≡ mark_of new t.kind bs → more ≡ found ++ record { mark = mk; at = t.start } ∷ []
+          → Numbering old text (drop from list) (drop (k + 1) list) new more
+      go t w e h i j =
+          let g : slice_get list k ≡ Some t = slice_get-get_or list k no_token l ∙ ap (λ x. Some x) (sym w) in
+          let bytes : bs ≡ bytes_of text t = b t g in
+          let left : drop k list ≡ t ∷ drop (k + 1) list = drop_more list k no_token l ∙ ap (λ x. x ∷ drop (k + 1) list) (sym w) in
+          numbering_goes old text (drop from list) (drop (k + 1) list) t table new found more (record { mark = mk; at = t.start }) (subst (λ y. Numbering old text (drop from list) y table found) left n)
+          (subst (λ y. new ≡ with_token table t.kind y) bytes e) (subst (λ y. TokenThere new t.kind y) bytes h) (ap (λ y. record { mark = y; at = t.start }) (subst (λ y. mk ≡ mark_of new t.kind y) bytes i)) j

@@ -39,6 +39,7 @@ pub fn place_of(tokens: &[Lexeme], end: u32) -> u32
 
 /// Statements up to the height `room`, from token `from` on.
 fn body_at(alloc: Global, room: u32, tokens: &Tokens<'_>, names: &mut NameTable, from: usize) -> Result<(Body, usize), ParseError>
+    requires some { 0 < room }
     requires low { room < 1000 }
     requires within { from ≤ length tokens.now.list }
     requires room { length names.old + length tokens.now.list < 2 ^ 32 - 1 }
