@@ -11,4 +11,4 @@ use Rattle.th_decl.specs.Parse.{listed, clause, hidden_sig, hidden_sigs, field_a
 use Rattle.th_decl.proofs.lists.names.Given as goal
 
 abbrev pub invariant-loop : goal.invariant-loop
-invariant-loop l = listed (Symbol Comma) (read_name) l.reader.most l.fn.tokens ≡ with_back (λ a b. a ++ b) (l.found.items) (read_list (Symbol Comma) (read_name) (λ a b. a ∷ b) [] (l.reader.most - l.counter) l.reader.most l.rest)
+invariant-loop l = listed (Symbol Comma) (read_name) l.fn.reader.most l.fn.tokens ≡ with_back (λ a b. a ++ b) (l.found.items) (read_list (Symbol Comma) (read_name) (λ a b. a ∷ b) [] (l.fn.reader.most - l.counter) l.fn.reader.most l.rest)
