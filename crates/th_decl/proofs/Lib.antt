@@ -1,1 +1,2 @@
 pub mod DeclLaws
+pub mod VecLoops

@@ -92,7 +92,7 @@ module _ (room : ℕ) where
   abbrev pub class_head : ℕ → P ClassHeadSyn
   class_head = seq (one (Word KeyClass)) (λ p. seq read_name (λ i. seq params (λ ps. after (Word KeyFor) (seq (read_named room) (λ t.
       seq inherits (λ h. seq clauses (λ cs. after (Symbol Semicolon)
-      (ret (record { at = p; name = i; params = ps; of = t; inherits = h; clauses = cs }))))))))
+      (ret (record { at = p; name = i; params = ps; of = t; inherits = h; clauses = cs })))))))))
 
   abbrev pub init_head : ℕ → P InitHeadSyn
   init_head = seq (one (Word KeyInit)) (λ p. seq formals (λ fs. seq signals (λ ss. ret (record { at = p; formals = fs; signals = ss }))))

@@ -4,6 +4,3 @@
 mod heads;
 mod items;
 mod lists;
-mod parse;
-
-pub use parse::{parse_interface, parse_module};
