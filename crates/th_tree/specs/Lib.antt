@@ -3,3 +3,12 @@ pub mod Cut
 pub mod Spans
 pub mod Names
 pub mod Literal
+pub mod Trees
+pub mod View
+pub mod Forms
+pub mod Grammar
+pub mod Declarations
+pub mod Numbered
+pub mod Verdict
+pub mod Onto
+pub mod DeclView

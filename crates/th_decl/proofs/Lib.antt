@@ -1,0 +1,2 @@
+pub mod DeclLaws
+pub mod VecLoops

@@ -1,0 +1,6 @@
+//! Reads modules and interfaces.
+#![tactic(auto)]
+
+mod heads;
+mod items;
+mod lists;
