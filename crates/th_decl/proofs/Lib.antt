@@ -1,2 +1,3 @@
 pub mod DeclLaws
 pub mod VecLoops
+pub mod Whole

@@ -4,3 +4,6 @@
 mod heads;
 mod items;
 mod lists;
+mod parse;
+
+pub use parse::{parse_interface, parse_module};
