@@ -8,8 +8,8 @@ ghost use Rattle.th_decl.specs.Parse.{uses, params, signals, formals, in_parens,
 use crate::lists::{clause_list, formal_list, named_list, names, references};
 use th_parse::{Reader, Step, at_symbol, at_word, name, symbol, word};
 use th_tree::{
-    ClassHead, ClauseTree, Formal, Ident, InitHead, Lexeme, NamedTree, RefTree, Reserved, RoutineHead, SigTree, Sym,
-    TypeList, TypeTree,
+    ClassHead, ClauseTree, Formal, Ident, InitHead, Lexeme, NamedTree, RefTree, Reserved,
+    RoutineHead, SigTree, Sym, TypeList, TypeTree,
 };
 
 /// The names after `uses`, or none.
@@ -111,7 +111,17 @@ pub fn sig<'a>(reader: Reader, room: u32, tokens: &'a [Lexeme]) -> Step<'a, SigT
     let (formals, rest) = formals(reader, room, rest)?;
     let (gives, rest) = returns(reader, room, rest)?;
     let (signals, rest) = signals(reader, rest)?;
-    Ok((SigTree { at: name.at, iterator: false, name, formals, gives, signals }, rest))
+    Ok((
+        SigTree {
+            at: name.at,
+            iterator: false,
+            name,
+            formals,
+            gives,
+            signals,
+        },
+        rest,
+    ))
 }
 
 /// An iterator's signature.
@@ -124,7 +134,17 @@ fn iter_sig<'a>(reader: Reader, room: u32, tokens: &'a [Lexeme]) -> Step<'a, Sig
     let (formals, rest) = formals(reader, room, rest)?;
     let (gives, rest) = yields(reader, room, rest)?;
     let (signals, rest) = signals(reader, rest)?;
-    Ok((SigTree { at, iterator: true, name, formals, gives, signals }, rest))
+    Ok((
+        SigTree {
+            at,
+            iterator: true,
+            name,
+            formals,
+            gives,
+            signals,
+        },
+        rest,
+    ))
 }
 
 /// A signature and `;`.
@@ -174,7 +194,16 @@ pub fn clause<'a>(reader: Reader, room: u32, tokens: &'a [Lexeme]) -> Step<'a, C
     let (formals, rest) = type_formals(reader, room, rest)?;
     let (gives, rest) = returns(reader, room, rest)?;
     let (signals, rest) = signals(reader, rest)?;
-    Ok((ClauseTree { param, method, formals, gives, signals }, rest))
+    Ok((
+        ClauseTree {
+            param,
+            method,
+            formals,
+            gives,
+            signals,
+        },
+        rest,
+    ))
 }
 
 /// The clauses after `where`, or none.
@@ -204,7 +233,19 @@ pub fn head<'a>(reader: Reader, room: u32, tokens: &'a [Lexeme]) -> Step<'a, Rou
     let (gives, rest) = returns(reader, room, rest)?;
     let (signals, rest) = signals(reader, rest)?;
     let (clauses, rest) = clauses(reader, room, rest)?;
-    Ok((RoutineHead { at, iterator: false, name, params, formals, gives, signals, clauses }, rest))
+    Ok((
+        RoutineHead {
+            at,
+            iterator: false,
+            name,
+            params,
+            formals,
+            gives,
+            signals,
+            clauses,
+        },
+        rest,
+    ))
 }
 
 /// The head of an iterator.
@@ -219,7 +260,19 @@ fn iter_head<'a>(reader: Reader, room: u32, tokens: &'a [Lexeme]) -> Step<'a, Ro
     let (gives, rest) = yields(reader, room, rest)?;
     let (signals, rest) = signals(reader, rest)?;
     let (clauses, rest) = clauses(reader, room, rest)?;
-    Ok((RoutineHead { at, iterator: true, name, params, formals, gives, signals, clauses }, rest))
+    Ok((
+        RoutineHead {
+            at,
+            iterator: true,
+            name,
+            params,
+            formals,
+            gives,
+            signals,
+            clauses,
+        },
+        rest,
+    ))
 }
 
 /// The class after `inherits`, or none.
@@ -248,7 +301,17 @@ pub fn class_head<'a>(reader: Reader, room: u32, tokens: &'a [Lexeme]) -> Step<'
     let (inherits, rest) = inherits(reader, room, rest)?;
     let (clauses, rest) = clauses(reader, room, rest)?;
     let (_, rest) = symbol(rest, Sym::Semicolon)?;
-    Ok((ClassHead { at, name, params, of: of.tree, inherits, clauses }, rest))
+    Ok((
+        ClassHead {
+            at,
+            name,
+            params,
+            of: of.tree,
+            inherits,
+            clauses,
+        },
+        rest,
+    ))
 }
 
 /// The head of an initializer.
@@ -259,7 +322,14 @@ pub fn init_head<'a>(reader: Reader, room: u32, tokens: &'a [Lexeme]) -> Step<'a
     let (at, rest) = word(tokens, Reserved::KeyInit)?;
     let (formals, rest) = formals(reader, room, rest)?;
     let (signals, rest) = signals(reader, rest)?;
-    Ok((InitHead { at, formals, signals }, rest))
+    Ok((
+        InitHead {
+            at,
+            formals,
+            signals,
+        },
+        rest,
+    ))
 }
 
 /// The types after `<`, or none.

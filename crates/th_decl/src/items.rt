@@ -6,11 +6,14 @@ ghost use Rattle.th_parse.specs.Gives.{Gives};
 ghost use Rattle.th_decl.specs.Parse.{argument, interface_class, super_call, super_part, field_assign, init, hidden_method, method, field, class, type_decl, exception, interface_item, interface, routine, module_item, implements, whole_module};
 
 use crate::heads::{class_head, head, in_parens, init_head, params, sig, supertypes, uses};
-use crate::lists::{ended_sigs, field_assigns, fields, hidden_sigs, interface_items, methods, module_items};
+use crate::lists::{
+    ended_sigs, field_assigns, fields, hidden_sigs, interface_items, methods, module_items,
+};
 use th_parse::{Level, Reader, Step, at_symbol, at_word, name, symbol, word};
 use th_tree::{
-    ClassDecl, ExceptionDecl, FieldAssign, Formal, Ident, InitTree, Interface, InterfaceClass, InterfaceItem, Lexeme,
-    MethodTree, Module, ModuleItem, Reserved, Routine, SuperCall, Sym, TypeDecl, TypeTree,
+    ClassDecl, ExceptionDecl, FieldAssign, Formal, Ident, InitTree, Interface, InterfaceClass,
+    InterfaceItem, Lexeme, MethodTree, Module, ModuleItem, Reserved, Routine, SuperCall, Sym,
+    TypeDecl, TypeTree,
 };
 
 /// A class of an interface.
@@ -34,7 +37,13 @@ fn super_call<'a>(reader: Reader, room: u32, tokens: &'a [Lexeme]) -> Step<'a, S
     let (at, rest) = word(tokens, Reserved::KeySuper)?;
     let (args, rest) = reader.args(room, rest)?;
     let (_, rest) = symbol(rest, Sym::Semicolon)?;
-    Ok((SuperCall { at, args: args.trees }, rest))
+    Ok((
+        SuperCall {
+            at,
+            args: args.trees,
+        },
+        rest,
+    ))
 }
 
 /// The super call of an initializer, or none.
@@ -58,7 +67,13 @@ pub fn field_assign<'a>(reader: Reader, room: u32, tokens: &'a [Lexeme]) -> Step
     let (_, rest) = symbol(rest, Sym::Becomes)?;
     let (value, rest) = reader.expr(Level::Expr, room, rest)?;
     let (_, rest) = symbol(rest, Sym::Semicolon)?;
-    Ok((FieldAssign { field, value: value.tree }, rest))
+    Ok((
+        FieldAssign {
+            field,
+            value: value.tree,
+        },
+        rest,
+    ))
 }
 
 /// An initializer.
@@ -70,7 +85,14 @@ fn init<'a>(reader: Reader, room: u32, tokens: &'a [Lexeme]) -> Step<'a, InitTre
     let (super_call, rest) = super_part(reader, room, rest)?;
     let (assigns, rest) = field_assigns(reader, room, rest)?;
     let (_, rest) = word(rest, Reserved::KeyEnd)?;
-    Ok((InitTree { head, super_call, assigns }, rest))
+    Ok((
+        InitTree {
+            head,
+            super_call,
+            assigns,
+        },
+        rest,
+    ))
 }
 
 /// A method.
@@ -84,7 +106,15 @@ pub fn method<'a>(reader: Reader, room: u32, tokens: &'a [Lexeme]) -> Step<'a, M
     let (sig, rest) = sig(reader, room, tokens)?;
     let (body, rest) = reader.body(room, rest)?;
     let (_, rest) = word(rest, Reserved::KeyEnd)?;
-    Ok((MethodTree { at: sig.at, hidden: false, sig, body }, rest))
+    Ok((
+        MethodTree {
+            at: sig.at,
+            hidden: false,
+            sig,
+            body,
+        },
+        rest,
+    ))
 }
 
 /// A method that is marked `hidden`.
@@ -96,7 +126,15 @@ fn hidden_method<'a>(reader: Reader, room: u32, tokens: &'a [Lexeme]) -> Step<'a
     let (sig, rest) = sig(reader, room, rest)?;
     let (body, rest) = reader.body(room, rest)?;
     let (_, rest) = word(rest, Reserved::KeyEnd)?;
-    Ok((MethodTree { at, hidden: true, sig, body }, rest))
+    Ok((
+        MethodTree {
+            at,
+            hidden: true,
+            sig,
+            body,
+        },
+        rest,
+    ))
 }
 
 /// A field.
@@ -120,7 +158,15 @@ fn class<'a>(reader: Reader, room: u32, tokens: &'a [Lexeme]) -> Step<'a, ClassD
     let (init, rest) = init(reader, room, rest)?;
     let (methods, rest) = methods(reader, room, rest)?;
     let (_, rest) = word(rest, Reserved::KeyEnd)?;
-    Ok((ClassDecl { head, fields, init, methods }, rest))
+    Ok((
+        ClassDecl {
+            head,
+            fields,
+            init,
+            methods,
+        },
+        rest,
+    ))
 }
 
 /// A type of an interface.
@@ -135,7 +181,16 @@ fn type_decl<'a>(reader: Reader, room: u32, tokens: &'a [Lexeme]) -> Step<'a, Ty
     let (_, rest) = symbol(rest, Sym::Semicolon)?;
     let (methods, rest) = ended_sigs(reader, room, rest)?;
     let (_, rest) = word(rest, Reserved::KeyEnd)?;
-    Ok((TypeDecl { at, name, params, supertypes, methods }, rest))
+    Ok((
+        TypeDecl {
+            at,
+            name,
+            params,
+            supertypes,
+            methods,
+        },
+        rest,
+    ))
 }
 
 /// The type of an exception's argument, or none.
@@ -163,7 +218,11 @@ fn exception<'a>(reader: Reader, room: u32, tokens: &'a [Lexeme]) -> Step<'a, Ex
 }
 
 /// An item of an interface.
-pub fn interface_item<'a>(reader: Reader, room: u32, tokens: &'a [Lexeme]) -> Step<'a, InterfaceItem>
+pub fn interface_item<'a>(
+    reader: Reader,
+    room: u32,
+    tokens: &'a [Lexeme],
+) -> Step<'a, InterfaceItem>
     requires { room < 999 }
     ensures { Gives (λ x. interface_item_of x.0) (λ x. x.1.now) result (interface_item room reader.most tokens.now) }
 {
@@ -195,7 +254,15 @@ pub fn interface_tree<'a>(reader: Reader, room: u32, tokens: &'a [Lexeme]) -> St
     let (_, rest) = symbol(rest, Sym::Semicolon)?;
     let (items, rest) = interface_items(reader, room, rest)?;
     let (_, rest) = word(rest, Reserved::KeyEnd)?;
-    Ok((Interface { at, name, uses, items }, rest))
+    Ok((
+        Interface {
+            at,
+            name,
+            uses,
+            items,
+        },
+        rest,
+    ))
 }
 
 /// A routine or an iterator.
@@ -246,5 +313,14 @@ pub fn module_tree<'a>(reader: Reader, room: u32, tokens: &'a [Lexeme]) -> Step<
     let (_, rest) = symbol(rest, Sym::Semicolon)?;
     let (items, rest) = module_items(reader, room, rest)?;
     let (_, rest) = word(rest, Reserved::KeyEnd)?;
-    Ok((Module { at, name, implements, uses, items }, rest))
+    Ok((
+        Module {
+            at,
+            name,
+            implements,
+            uses,
+            items,
+        },
+        rest,
+    ))
 }

@@ -15,8 +15,8 @@ use crate::heads::{clause, ended_sig, hidden_sig};
 use crate::items::{field, field_assign, interface_item, method, module_item};
 use th_parse::{Reader, Step, Stop, at_symbol, at_word, name, reference, symbol};
 use th_tree::{
-    ClauseTree, FieldAssign, Formal, Ident, InterfaceItem, Lexeme, Mark, MethodTree, ModuleItem, NamedTree, RefTree,
-    Reserved, SigTree, Sym,
+    ClauseTree, FieldAssign, Formal, Ident, InterfaceItem, Lexeme, Mark, MethodTree, ModuleItem,
+    NamedTree, RefTree, Reserved, SigTree, Sym,
 };
 
 /// Appends to the list.
@@ -187,7 +187,11 @@ pub fn fields<'a>(reader: Reader, room: u32, tokens: &'a [Lexeme]) -> Step<'a, V
 }
 
 /// Assignments of fields.
-pub fn field_assigns<'a>(reader: Reader, room: u32, tokens: &'a [Lexeme]) -> Step<'a, Vec<FieldAssign>>
+pub fn field_assigns<'a>(
+    reader: Reader,
+    room: u32,
+    tokens: &'a [Lexeme],
+) -> Step<'a, Vec<FieldAssign>>
     requires { room < 999 }
     ensures { Gives (λ x. map field_assign_of x.0.items) (λ x. x.1.now) result (field_assigns room reader.most tokens.now) }
 {
@@ -223,7 +227,11 @@ pub fn methods<'a>(reader: Reader, room: u32, tokens: &'a [Lexeme]) -> Step<'a, 
 }
 
 /// Items of an interface.
-pub fn interface_items<'a>(reader: Reader, room: u32, tokens: &'a [Lexeme]) -> Step<'a, Vec<InterfaceItem>>
+pub fn interface_items<'a>(
+    reader: Reader,
+    room: u32,
+    tokens: &'a [Lexeme],
+) -> Step<'a, Vec<InterfaceItem>>
     requires { room < 999 }
     ensures { Gives (λ x. map interface_item_of x.0.items) (λ x. x.1.now) result (interface_items room reader.most tokens.now) }
 {
@@ -241,7 +249,11 @@ pub fn interface_items<'a>(reader: Reader, room: u32, tokens: &'a [Lexeme]) -> S
 }
 
 /// Items of a module.
-pub fn module_items<'a>(reader: Reader, room: u32, tokens: &'a [Lexeme]) -> Step<'a, Vec<ModuleItem>>
+pub fn module_items<'a>(
+    reader: Reader,
+    room: u32,
+    tokens: &'a [Lexeme],
+) -> Step<'a, Vec<ModuleItem>>
     requires { room < 999 }
     ensures { Gives (λ x. map module_item_of x.0.items) (λ x. x.1.now) result (module_items room reader.most tokens.now) }
 {
@@ -262,7 +274,16 @@ pub fn module_items<'a>(reader: Reader, room: u32, tokens: &'a [Lexeme]) -> Step
 fn at_name(tokens: &[Lexeme]) -> bool
     ensures { in_set (0 ∷ []) (peek tokens.now) ≡ result }
 {
-    matches!(tokens, [Lexeme { mark: Mark::Name(_), .. }, ..])
+    matches!(
+        tokens,
+        [
+            Lexeme {
+                mark: Mark::Name(_),
+                ..
+            },
+            ..
+        ]
+    )
 }
 
 /// Whether a signature may begin.
@@ -283,12 +304,16 @@ fn at_method(tokens: &[Lexeme]) -> bool
 fn at_module_item(tokens: &[Lexeme]) -> bool
     ensures { in_set (code (Word KeyClass) ∷ code (Word KeyIter) ∷ code (Word KeyRoutine) ∷ []) (peek tokens.now) ≡ result }
 {
-    at_word(tokens, Reserved::KeyClass) || at_word(tokens, Reserved::KeyIter) || at_word(tokens, Reserved::KeyRoutine)
+    at_word(tokens, Reserved::KeyClass)
+        || at_word(tokens, Reserved::KeyIter)
+        || at_word(tokens, Reserved::KeyRoutine)
 }
 
 /// Whether an item of an interface may begin.
 fn at_interface_item(tokens: &[Lexeme]) -> bool
     ensures { in_set (code (Word KeyException) ∷ code (Word KeyType) ∷ code (Word KeyClass) ∷ code (Word KeyIter) ∷ code (Word KeyRoutine) ∷ []) (peek tokens.now) ≡ result }
 {
-    at_word(tokens, Reserved::KeyException) || at_word(tokens, Reserved::KeyType) || at_module_item(tokens)
+    at_word(tokens, Reserved::KeyException)
+        || at_word(tokens, Reserved::KeyType)
+        || at_module_item(tokens)
 }

@@ -14,7 +14,12 @@ use th_parse::{HEIGHT_LIMIT, ParseError, Reader, Stop, lexemes, place_of};
 use th_tree::{Interface, Module, NameTable, Tokens};
 
 /// The module with the height limit `room`.
-fn module_at(alloc: Global, room: u32, tokens: &Tokens<'_>, names: &mut NameTable) -> Result<Module, ParseError>
+fn module_at(
+    alloc: Global,
+    room: u32,
+    tokens: &Tokens<'_>,
+    names: &mut NameTable,
+) -> Result<Module, ParseError>
     requires some { 0 < room }
     requires low { room < 999 }
     requires table { length names.old + length tokens.now.list < 2 ^ 32 - 1 }
@@ -27,7 +32,14 @@ fn module_at(alloc: Global, room: u32, tokens: &Tokens<'_>, names: &mut NameTabl
         return Err(ParseError::Memory);
     };
     let end = tokens.text().len() as u32;
-    match module_tree(Reader { alloc, most: found.len() }, room, &found) {
+    match module_tree(
+        Reader {
+            alloc,
+            most: found.len(),
+        },
+        room,
+        &found,
+    ) {
         Ok((tree, rest)) => {
             if rest.len() == 0 {
                 return Ok(tree);
@@ -40,7 +52,12 @@ fn module_at(alloc: Global, room: u32, tokens: &Tokens<'_>, names: &mut NameTabl
 }
 
 /// The interface with the height limit `room`.
-fn interface_at(alloc: Global, room: u32, tokens: &Tokens<'_>, names: &mut NameTable) -> Result<Interface, ParseError>
+fn interface_at(
+    alloc: Global,
+    room: u32,
+    tokens: &Tokens<'_>,
+    names: &mut NameTable,
+) -> Result<Interface, ParseError>
     requires some { 0 < room }
     requires low { room < 999 }
     requires table { length names.old + length tokens.now.list < 2 ^ 32 - 1 }
@@ -53,7 +70,14 @@ fn interface_at(alloc: Global, room: u32, tokens: &Tokens<'_>, names: &mut NameT
         return Err(ParseError::Memory);
     };
     let end = tokens.text().len() as u32;
-    match interface_tree(Reader { alloc, most: found.len() }, room, &found) {
+    match interface_tree(
+        Reader {
+            alloc,
+            most: found.len(),
+        },
+        room,
+        &found,
+    ) {
         Ok((tree, rest)) => {
             if rest.len() == 0 {
                 return Ok(tree);
@@ -67,7 +91,11 @@ fn interface_at(alloc: Global, room: u32, tokens: &Tokens<'_>, names: &mut NameT
 
 /// The module that all the tokens are. docs/LANGUAGE.md, "Grammar", states which tokens are a module. After an error
 /// the table has perhaps more names at its end.
-pub fn parse_module(alloc: Global, tokens: &Tokens<'_>, names: &mut NameTable) -> Result<Module, ParseError>
+pub fn parse_module(
+    alloc: Global,
+    tokens: &Tokens<'_>,
+    names: &mut NameTable,
+) -> Result<Module, ParseError>
     requires table { length names.old + length tokens.now.list < 2 ^ 32 - 1 }
     requires short { length tokens.now.text < 2 ^ 32 }
     ensures answer { IsTextAnswer module_of WholeModule (lexemes_of names.new tokens.now.text tokens.now.list) (length tokens.now.text) result }
@@ -80,7 +108,11 @@ pub fn parse_module(alloc: Global, tokens: &Tokens<'_>, names: &mut NameTable) -
 
 /// The interface that all the tokens are. docs/LANGUAGE.md, "Grammar", states which tokens are an interface. After an
 /// error the table has perhaps more names at its end.
-pub fn parse_interface(alloc: Global, tokens: &Tokens<'_>, names: &mut NameTable) -> Result<Interface, ParseError>
+pub fn parse_interface(
+    alloc: Global,
+    tokens: &Tokens<'_>,
+    names: &mut NameTable,
+) -> Result<Interface, ParseError>
     requires table { length names.old + length tokens.now.list < 2 ^ 32 - 1 }
     requires short { length tokens.now.text < 2 ^ 32 }
     ensures answer { IsTextAnswer interface_of WholeInterface (lexemes_of names.new tokens.now.text tokens.now.list) (length tokens.now.text) result }

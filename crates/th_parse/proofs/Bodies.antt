@@ -44,11 +44,13 @@ many_ends more z l none zero n (t ∷ ts) rest b y e = absurd (omega arith)
 many_ends {A = A} {B = B} {L = L} {item = item} {f = f} more z l none (suc x) n ts rest b y e = go (in_set f (peek ts)) refl e (λ ts1 b1 k d. many_ends more z l none x n ts1 rest b1 k d) where
   same : Got z ts ≡ Got b rest → ts ≡ rest
   same e = cc
+
   next : (r : Res B) (a : A) → bind r (λ c ts2. Got (more a c) ts2) ≡ Got b rest → (c : B) × (r ≡ Got c rest)
   next (Got c us) a e = let d : us ≡ rest = rest_same e in (c, ap (λ q. Got c q) d) where
     rest_same : Got (more a c) us ≡ Got b rest → us ≡ rest
     rest_same e = cc
   next (Bad us) a e = absurd (cc)
+
   first : (r : Res A) → Good L ts r → bind r (λ a ts1. bind (many (in_set f) item more (ret z) x n ts1) (λ c ts2. Got (more a c) ts2)) ≡ Got b rest
       → ((ts1 : List Lexeme) (b1 : B) → length ts1 ≤ x → many (in_set f) item more (ret z) x n ts1 ≡ Got b1 rest → in_set f (peek rest) ≡ false) → in_set f (peek rest) ≡ false
   first (Bad us) g e k = absurd (cc)
@@ -57,6 +59,7 @@ many_ends {A = A} {B = B} {L = L} {item = item} {f = f} more z l none (suc x) n 
       let i = one_long f xs (l.heads a xs h) in
       let w : length (xs ++ us) ≤ suc x = subst (λ q. length q ≤ suc x) d y in
       k us s.0 (omega (arith, length-append xs us)) s.1
+
   go : (c : Bool) → in_set f (peek ts) ≡ c → (if c then bind (item n ts) (λ a ts1. bind (many (in_set f) item more (ret z) x n ts1) (λ c ts2. Got (more a c) ts2)) else Got z ts) ≡ Got b rest
       → ((ts1 : List Lexeme) (b1 : B) → length ts1 ≤ x → many (in_set f) item more (ret z) x n ts1 ≡ Got b1 rest → in_set f (peek rest) ≡ false) → in_set f (peek rest) ≡ false
   go true t e k = first (item n ts) (l.good n ts) e k
@@ -72,7 +75,7 @@ body_front limit n ts rest b s z e = let g = front_of (law_body limit) refl n ts
   front = g.0;
   split = g.1;
   is = g.2;
-  ends = sym (next_same rest) ∙ body_ends limit n ts rest b s z e
+  ends = sym (next_same rest) ∙ body_ends limit n ts rest b s z e;
 }
 
 -- where reading stopped at a wrong lexeme
@@ -104,13 +107,13 @@ one_tree limit = go (nat_lt 0 limit) refl where
     types = λ ts a b h i. unique (law_type limit s) refl a b ts h i;
     named = λ ts a b h i. unique (law_named limit s) refl a b ts h i;
     expressions = λ F ts a b h i. unique (law_form limit s F) (none_more F) a b ts h i;
-    bodies = λ ts a b h i. unique (law_body limit) refl a b ts h i
+    bodies = λ ts a b h i. unique (law_body limit) refl a b ts h i;
   }
   go false s = record {
     types = λ ts a b h i. absurd (none_type limit s a ts h);
     named = λ ts a b h i. absurd (none_named limit s a ts h);
     expressions = λ F ts a b h i. absurd (none_form limit s F a ts h);
-    bodies = λ ts a b h i. unique (law_body limit) refl a b ts h i
+    bodies = λ ts a b h i. unique (law_body limit) refl a b ts h i;
   }
 
 pub same_length : (found ts : List Lexeme) (n : ℕ) → ts ≡ found → n ≡ length found → length ts ≤ n

@@ -27,8 +27,8 @@ module _ {A : Type 0} {L K : A → List Lexeme → Type 0} {p q : ℕ → P A} {
   steady_choice n m ts z =
       steady_look (λ o y. if test o then (if g1 then p m y else Bad y) else (if g2 then q m y else Bad y)) m ts _
       (steady_test (test (peek ts)) (λ y. if g1 then p m y else Bad y) (λ y. if g2 then q m y else Bad y) m ts _ _
-        (λ e. steady_test g1 (p m) Bad m ts (p n ts) (Bad ts) (λ i. (l i).steady n m ts z) (λ i. steady_bad m ts))
-        (λ e. steady_test g2 (q m) Bad m ts (q n ts) (Bad ts) (λ i. (k i).steady n m ts z) (λ i. steady_bad m ts)))
+      (λ e. steady_test g1 (p m) Bad m ts (p n ts) (Bad ts) (λ i. (l i).steady n m ts z) (λ i. steady_bad m ts))
+      (λ e. steady_test g2 (q m) Bad m ts (q n ts) (Bad ts) (λ i. (k i).steady n m ts z) (λ i. steady_bad m ts)))
 
   decide : (g : Bool) (P : Bool → Type 0) → (g ≡ true → P true) → (g ≡ false → P false) → P g
   decide true P x y = x refl
@@ -55,12 +55,12 @@ module _ {A : Type 0} {L K : A → List Lexeme → Type 0} {p q : ℕ → P A} {
     good = good_choice;
     steady = steady_choice;
     comes = λ n a xs rest h z o.
-      let c = code_of (peek rest) in
-      let o1 : member c m1 ≡ false = out_left c m1 (m2 ++ joined_if n2 [] f1) o in
-      let o2 : member c (m2 ++ joined_if n2 [] f1) ≡ false = out_right c m1 (m2 ++ joined_if n2 [] f1) o in
-      let o3 : member c (joined_if n2 [] f1) ≡ false = out_right c m2 (joined_if n2 [] f1) o2 in
-      comes_choice n a xs rest h z o1 (out_left c m2 (joined_if n2 [] f1) o2) (λ us i. begins_not f1 f2 n2 us rest apart i (λ e. empty_out n2 c e o3));
-    heads = heads_choice
+        let c = code_of (peek rest) in
+        let o1 : member c m1 ≡ false = out_left c m1 (m2 ++ joined_if n2 [] f1) o in
+        let o2 : member c (m2 ++ joined_if n2 [] f1) ≡ false = out_right c m1 (m2 ++ joined_if n2 [] f1) o in
+        let o3 : member c (joined_if n2 [] f1) ≡ false = out_right c m2 (joined_if n2 [] f1) o2 in
+        comes_choice n a xs rest h z o1 (out_left c m2 (joined_if n2 [] f1) o2) (λ us i. begins_not f1 f2 n2 us rest apart i (λ e. empty_out n2 c e o3));
+    heads = heads_choice;
   } where
     empty_out : (b : Bool) (c : ℕ) → b ≡ true → member c (joined_if b [] f1) ≡ false → member c f1 ≡ false
     empty_out true c e o = o

@@ -58,7 +58,7 @@ module _ {A : Type 0} {L : A → List Lexeme → Type 0} {run : ℕ → P A} {f 
     split = g.1;
     begins = (a, [], subst (λ y. L a y) (sym (append-nil g.0)) g.2);
     wrong = λ u q zs c e i. let same : t ≡ u = cc in got_wrong n ts g.0 p zs t a c z g.1 d (subst (λ w. L c (g.0 ++ w ∷ zs)) (sym same) i);
-    early = λ c e. absurd (cc)
+    early = λ c e. absurd (cc);
   }
 
   bad_front : (n : ℕ) (ts rest : List Lexeme) → run n ts ≡ Bad rest → (xs : List Lexeme) × (ts ≡ xs ++ rest) × (a : A) × (zs : List Lexeme) × L a (xs ++ zs)
@@ -72,14 +72,14 @@ module _ {A : Type 0} {L : A → List Lexeme → Type 0} {run : ℕ → P A} {f 
     split = g.1;
     begins = (g.2, g.3, g.4);
     wrong = λ u q us c e i. absurd (cc);
-    early = λ c e i. let j : Bad [] ≡ Got c [] = sym d ∙ reads_whole n c ts i z in absurd (cc j)
+    early = λ c e i. let j : Bad [] ≡ Got c [] = sym d ∙ reads_whole n c ts i z in absurd (cc j);
   }
   refused n ts (t ∷ p) z d = let g = bad_front n ts (t ∷ p) d in record {
     front = g.0;
     split = g.1;
     begins = (g.2, g.3, g.4);
     wrong = λ u q us c e i. let same : t ≡ u = cc in bad_wrong n ts g.0 p us t c z g.1 d (subst (λ w. L c (g.0 ++ w ∷ us)) (sym same) i);
-    early = λ c e. absurd (cc)
+    early = λ c e. absurd (cc);
   }
 
   -- the same by the length of what is left

@@ -128,7 +128,7 @@ module _ (r : ℕ) (Sub : Form → Lang Found) (sub : Form → ℕ → P Found) 
 
   pub law_args : Law (Args r (TypeAt r) (NamedAt r) Sub) (args_of r sub) (code (Symbol OpenParen) ∷ []) false []
   law_args = law_weak (law_after (Symbol OpenParen) tt
-    (law_second_if room (law_place (Symbol CloseParen) tt (λ p. no_founds))
+      (law_second_if room (law_place (Symbol CloseParen) tt (λ p. no_founds))
       (λ e. law_then (law_listed (Symbol Comma) more_founds no_founds (law_sub e Expr) tt refl) (λ bs xs h. law_after (Symbol CloseParen) tt (law_done bs)) refl)
       (λ e. none_then (none_listed (none e Expr))) refl)) refl refl
 
@@ -140,39 +140,39 @@ module _ (r : ℕ) (Sub : Form → Lang Found) (sub : Form → ℕ → P Found) 
 
   law_new : room ≡ true → Law (New r (TypeAt r) (NamedAt r) Sub) (new_of r sub) (code (Word KeyNew) ∷ []) false []
   law_new e = law_then (law_the (Word KeyNew) tt) (λ p xs h. law_either
-    (law_after (Word KeyArray) tt (law_then (law_between (Symbol OpenSquare) (Symbol CloseSquare) tt tt (law_type r e) refl) (λ t ys i.
+      (law_after (Word KeyArray) tt (law_then (law_between (Symbol OpenSquare) (Symbol CloseSquare) tt tt (law_type r e) refl) (λ t ys i.
       law_after (Symbol OpenParen) tt (law_then (law_sub e Expr) (λ m zs j. law_after (Symbol Comma) tt (law_then (law_sub e Expr) (λ a us k. law_after (Symbol CloseParen) tt
       (law_done (found (new_array_expr p t m.tree a.tree) (suc (max (type_height t) (max m.height a.height))) p))) refl)) refl)) refl))
-    (law_then (law_named r e) (λ c ys i. law_then law_args (λ bs zs j. law_done (found (new_expr p c bs.trees) (suc (max (suc (types_height c.args)) bs.height)) p)) refl) refl) refl) refl
+      (law_then (law_named r e) (λ c ys i. law_then law_args (λ bs zs j. law_done (found (new_expr p c bs.trees) (suc (max (suc (types_height c.args)) bs.height)) p)) refl) refl) refl) refl
 
   law_get_byte : Law (GetByte r (TypeAt r) (NamedAt r) Sub) (get_byte_of r sub) (code (Word KeyGetByte) ∷ []) false []
   law_get_byte = law_then (law_the (Word KeyGetByte) tt) (λ p xs h. law_after (Symbol OpenParen) tt (law_after (Symbol CloseParen) tt (law_done (found (get_byte_expr p) 1 p)))) refl
 
   law_braces : Law (Braces r (TypeAt r) (NamedAt r) Sub) (braces_of r sub) (code (Symbol OpenBrace) ∷ []) true (code (Symbol OpenBrace) ∷ [])
   law_braces = law_weak (law_first_if room (λ e. law_between (Symbol OpenBrace) (Symbol CloseBrace) tt tt (law_listed (Symbol Comma) more_types no_type (law_type r e) tt refl) refl)
-    (λ e. none_between (none_listed (none_type r e))) (law_done no_type) refl) refl refl
+      (λ e. none_between (none_listed (none_type r e))) (law_done no_type) refl) refl refl
 
   law_item : Law (Item r (TypeAt r) (NamedAt r) Sub) (item_of r sub) (0 ∷ []) false atom_more
   law_item = law_weak (law_then law_ref (λ a xs h. law_then law_braces (λ ts ys i.
-    law_either (law_then law_args (λ bs zs j. law_done (found (call_expr a.first.at a ts bs.trees) (suc (max (types_height ts) bs.height)) a.first.at)) refl)
+      law_either (law_then law_args (λ bs zs j. law_done (found (call_expr a.first.at a ts bs.trees) (suc (max (types_height ts) bs.height)) a.first.at)) refl)
       (law_done (found (item_expr a.first.at a ts) (suc (types_height ts)) a.first.at)) refl) refl) refl) refl refl
 
   pub law_atom : LawForm Atom (AnAtom r (TypeAt r) (NamedAt r) Sub) (atom_of r sub)
   law_atom = law_weak
-    (law_either law_number
-    (law_either (law_place (Word KeyTrue) tt (λ p. found (true_expr p) 1 p))
-    (law_either (law_place (Word KeyFalse) tt (λ p. found (false_expr p) 1 p))
-    (law_either (law_place (Word KeySelf) tt (λ p. found (self_expr p) 1 p))
-    (law_either law_text
-    (law_first_if room law_parens (λ e. none_next (λ p. none_then (none e Expr)))
-    (law_either law_super
-    (law_first_if room law_new (λ e. none_next (λ p. none_either_new p e))
-    (law_either law_get_byte law_item refl) refl) refl) refl) refl) refl) refl) refl) refl) refl refl
+      (law_either law_number
+      (law_either (law_place (Word KeyTrue) tt (λ p. found (true_expr p) 1 p))
+      (law_either (law_place (Word KeyFalse) tt (λ p. found (false_expr p) 1 p))
+      (law_either (law_place (Word KeySelf) tt (λ p. found (self_expr p) 1 p))
+      (law_either law_text
+      (law_first_if room law_parens (λ e. none_next (λ p. none_then (none e Expr)))
+      (law_either law_super
+      (law_first_if room law_new (λ e. none_next (λ p. none_either_new p e))
+      (law_either law_get_byte law_item refl) refl) refl) refl) refl) refl) refl) refl) refl) refl refl
     where
       none_either_new : (p : ℕ) → room ≡ false → (a : Found) (xs : List Lexeme) → Either (After (Word KeyArray) (Then (Between (Symbol OpenSquare) (Symbol CloseSquare) (TypeAt r)) (λ t.
           After (Symbol OpenParen) (Then (Sub Expr) (λ n. After (Symbol Comma) (Then (Sub Expr) (λ e. After (Symbol CloseParen)
           (Done (found (new_array_expr p t n.tree e.tree) (suc (max (type_height t) (max n.height e.height))) p)))))))))
-        (Then (NamedAt r) (λ c. Then (Args r (TypeAt r) (NamedAt r) Sub) (λ bs. Done (found (new_expr p c bs.trees) (suc (max (suc (types_height c.args)) bs.height)) p)))) a xs → ⊥
+          (Then (NamedAt r) (λ c. Then (Args r (TypeAt r) (NamedAt r) Sub) (λ bs. Done (found (new_expr p c bs.trees) (suc (max (suc (types_height c.args)) bs.height)) p)))) a xs → ⊥
       none_either_new p e a xs (left b us h) = none_next (λ q. none_then (none_between (none_type r e))) b us h
       none_either_new p e a xs (right b us h) = none_then (none_named r e) b us h
 
@@ -186,25 +186,25 @@ module _ (r : ℕ) (Sub : Form → Lang Found) (sub : Form → ℕ → P Found) 
       (all_either Tall (all_next Tall (λ p. all_next Tall (λ a. all_next Tall (λ q. all_done Tall (omega arith)))))
       (all_either Tall (all_next Tall (λ p. all_next Tall (λ q. all_next Tall (λ m. all_next Tall (λ bs. all_done Tall (omega arith))))))
       (all_either Tall (all_next Tall (λ p. all_either Tall
-          (all_next Tall (λ q. all_next Tall (λ t. all_next Tall (λ s. all_next Tall (λ m. all_next Tall (λ u. all_next Tall (λ e. all_next Tall (λ v. all_done Tall (omega arith)))))))))
-          (all_next Tall (λ c. all_next Tall (λ bs. all_done Tall (omega arith))))))
+      (all_next Tall (λ q. all_next Tall (λ t. all_next Tall (λ s. all_next Tall (λ m. all_next Tall (λ u. all_next Tall (λ e. all_next Tall (λ v. all_done Tall (omega arith)))))))))
+      (all_next Tall (λ c. all_next Tall (λ bs. all_done Tall (omega arith))))))
       (all_either Tall (all_next Tall (λ p. all_next Tall (λ q. all_next Tall (λ s. all_done Tall (omega arith)))))
       (all_next Tall (λ a. all_next Tall (λ ts. all_either Tall (all_next Tall (λ bs. all_done Tall (omega arith))) (all_done Tall (omega arith)))))))))))))
 
   law_member : (a : Found) → Law (Member r (TypeAt r) (NamedAt r) Sub a) (member_of r sub a) (code (Word KeyLength) ∷ 0 ∷ []) false (code (Symbol OpenParen) ∷ [])
   law_member a = law_weak (law_either (law_after (Word KeyLength) tt (law_done (found (length_expr a.start a.tree) (suc a.height) a.start)))
-    (law_then law_name (λ m xs h. law_either (law_then law_args (λ bs ys i. law_done (found (method_expr a.start a.tree m bs.trees) (suc (max a.height bs.height)) a.start)) refl)
+      (law_then law_name (λ m xs h. law_either (law_then law_args (λ bs ys i. law_done (found (method_expr a.start a.tree m bs.trees) (suc (max a.height bs.height)) a.start)) refl)
       (law_done (found (field_expr a.start a.tree m) (suc a.height) a.start)) refl) refl) refl) refl refl
 
   law_suffix : room ≡ true → (a : Found) → Law (Suffix r (TypeAt r) (NamedAt r) Sub a) (suffix_of r sub a) (code (Symbol Dot) ∷ code (Symbol OpenSquare) ∷ []) false (code (Symbol OpenParen) ∷ [])
   law_suffix e a = law_weak (law_either (law_after (Symbol Dot) tt (law_member a))
-    (law_then (law_between (Symbol OpenSquare) (Symbol CloseSquare) tt tt (law_sub e Expr) refl) (λ b xs h. law_done (found (element_expr a.start a.tree b.tree) (suc (max a.height b.height)) a.start)) refl) refl) refl refl
+      (law_then (law_between (Symbol OpenSquare) (Symbol CloseSquare) tt tt (law_sub e Expr) refl) (λ b xs h. law_done (found (element_expr a.start a.tree b.tree) (suc (max a.height b.height)) a.start)) refl) refl) refl refl
 
   taller_suffix : (a b : Found) (xs : List Lexeme) → Suffix r (TypeAt r) (NamedAt r) Sub a b xs → Taller a b
   taller_suffix a =
       all_either (Taller a)
       (all_next (Taller a) (λ p. all_either (Taller a) (all_next (Taller a) (λ q. all_done (Taller a) (omega arith)))
-        (all_next (Taller a) (λ m. all_either (Taller a) (all_next (Taller a) (λ bs. all_done (Taller a) (omega arith))) (all_done (Taller a) (omega arith))))))
+      (all_next (Taller a) (λ m. all_either (Taller a) (all_next (Taller a) (λ bs. all_done (Taller a) (omega arith))) (all_done (Taller a) (omega arith))))))
       (all_next (Taller a) (λ b. all_done (Taller a) (omega arith)))
 
   room_of : (a : Found) → Tall a → goes_on r a ≡ true → room ≡ true
@@ -215,12 +215,12 @@ module _ (r : ℕ) (Sub : Form → Lang Found) (sub : Form → ℕ → P Found) 
   law_suffixes : (a : Found) → Tall a → Law (Steps (λ b. Where (b.height ≤ r) (Suffix r (TypeAt r) (NamedAt r) Sub b)) a) (suffixes r sub a) (code (Symbol Dot) ∷ code (Symbol OpenSquare) ∷ []) true
       (code (Symbol Dot) ∷ code (Symbol OpenSquare) ∷ code (Symbol OpenParen) ∷ [])
   law_suffixes a t = law_steps (in_set (code (Symbol Dot) ∷ code (Symbol OpenSquare) ∷ [])) (goes_on r) (λ b. b.height) Tall r (λ o. refl)
-    (λ b s e. law_where (b.height ≤ r) (leb-true b.height r e) (law_suffix (room_of b s e) b))
-    (λ b c xs e h. shut b c xs e h)
-    (λ b c xs s h. let z = all_where (Taller b) (taller_suffix b) c xs h in (omega (arith, z), z))
-    (λ b e. leb-true b.height r e) refl (suc r) a t (omega (arith, t)) where
-      shut : (b c : Found) (xs : List Lexeme) → goes_on r b ≡ false → Where (b.height ≤ r) (Suffix r (TypeAt r) (NamedAt r) Sub b) c xs → ⊥
-      shut b c xs e (where_holds d us z h) = absurd (omega (arith, leb-false b.height r e, z))
+      (λ b s e. law_where (b.height ≤ r) (leb-true b.height r e) (law_suffix (room_of b s e) b))
+      (λ b c xs e h. shut b c xs e h)
+      (λ b c xs s h. let z = all_where (Taller b) (taller_suffix b) c xs h in (omega (arith, z), z))
+      (λ b e. leb-true b.height r e) refl (suc r) a t (omega (arith, t)) where
+        shut : (b c : Found) (xs : List Lexeme) → goes_on r b ≡ false → Where (b.height ≤ r) (Suffix r (TypeAt r) (NamedAt r) Sub b) c xs → ⊥
+        shut b c xs e (where_holds d us z h) = absurd (omega (arith, leb-false b.height r e, z))
 
   pub law_post : LawForm Post (APost r (TypeAt r) (NamedAt r) Sub) (post_of r sub)
   law_post = law_weak (law_then law_atom (λ a xs h. law_suffixes a (tall_atom a xs h)) refl) refl refl
@@ -233,8 +233,8 @@ module _ (r : ℕ) (Sub : Form → Lang Found) (sub : Form → ℕ → P Found) 
 
   law_unary : LawForm Unary (AUnary r (TypeAt r) (NamedAt r) Sub) (unary_of r sub)
   law_unary = law_weak (law_first_if room
-    (λ e. law_then (law_the (Symbol Minus) tt) (λ p xs h. law_then (law_sub e Unary) (λ a ys i. law_done (found (negative_expr p a.tree) (suc a.height) p)) refl) refl)
-    (λ e. none_next (λ p. none_then (none e Unary))) law_post refl) refl refl
+      (λ e. law_then (law_the (Symbol Minus) tt) (λ p xs h. law_then (law_sub e Unary) (λ a ys i. law_done (found (negative_expr p a.tree) (suc a.height) p)) refl) refl)
+      (λ e. none_next (λ p. none_then (none e Unary))) law_post refl) refl refl
 
   tall_unary : (a : Found) (xs : List Lexeme) → AUnary r (TypeAt r) (NamedAt r) Sub a xs → Tall a
   tall_unary = all_either Tall (all_next Tall (λ p. all_next Tall (λ a. all_done Tall (omega arith)))) tall_post
@@ -250,18 +250,19 @@ module _ (r : ℕ) (Sub : Form → Lang Found) (sub : Form → ℕ → P Found) 
     apart : (xs : List ℕ) → disjoint xs [] ≡ true
     apart [] = refl
     apart (x ∷ xs) = apart xs
+
     operand : {m : List ℕ} → Law (Operand r (TypeAt r) (NamedAt r) Sub F G a) (operand_of r sub F G a) (ops_of F) false m → Law (Operand r (TypeAt r) (NamedAt r) Sub F G a) (operand_of r sub F G a) (ops_of F) false m
     operand l = l
 
   law_chain : (F G : Form) (m0 : Mark) (o0 : BinaryOp) → operator_of F m0 ≡ Some o0 → disjoint (form_more G) (ops_of F) ≡ true → (a : Found) → Tall a
       → Law (Steps (λ b. Where (b.height ≤ r) (Operand r (TypeAt r) (NamedAt r) Sub F G b)) a) (chain r sub F G a) (ops_of F) true (ops_of F ++ form_more G)
   law_chain F G m0 o0 e0 apart a t = law_steps (λ o. has (lookup (operator_of F) o)) (goes_on r) (λ b. b.height) Tall r (op_test F)
-    (λ b s e. law_where (b.height ≤ r) (leb-true b.height r e) (law_operand F G m0 o0 e0 (room_of b s e) b))
-    (λ b c xs e h. shut b c xs e h)
-    (λ b c xs s h. let z = taller_low F G b c xs h in (omega (arith, z), z))
-    (λ b e. leb-true b.height r e) apart (suc r) a t (omega (arith, t)) where
-      shut : (b c : Found) (xs : List Lexeme) → goes_on r b ≡ false → Where (b.height ≤ r) (Operand r (TypeAt r) (NamedAt r) Sub F G b) c xs → ⊥
-      shut b c xs e (where_holds d us z h) = absurd (omega (arith, leb-false b.height r e, z))
+      (λ b s e. law_where (b.height ≤ r) (leb-true b.height r e) (law_operand F G m0 o0 e0 (room_of b s e) b))
+      (λ b c xs e h. shut b c xs e h)
+      (λ b c xs s h. let z = taller_low F G b c xs h in (omega (arith, z), z))
+      (λ b e. leb-true b.height r e) apart (suc r) a t (omega (arith, t)) where
+        shut : (b c : Found) (xs : List Lexeme) → goes_on r b ≡ false → Where (b.height ≤ r) (Operand r (TypeAt r) (NamedAt r) Sub F G b) c xs → ⊥
+        shut b c xs e (where_holds d us z h) = absurd (omega (arith, leb-false b.height r e, z))
 
   tall_chain : (F G : Form) (First : Lang Found) → ((a : Found) (xs : List Lexeme) → First a xs → Tall a) → (a : Found) (xs : List Lexeme) → Chain r (TypeAt r) (NamedAt r) Sub F G First a xs → Tall a
   tall_chain F G First k a xs (in_turn b c us vs h i) = all_steps (taller_low F G) b c vs (k b us h) i
@@ -280,10 +281,10 @@ module _ (r : ℕ) (Sub : Form → Lang Found) (sub : Form → ℕ → P Found) 
 
   law_comparison : (a : Found) → Tall a → Law (Either (Where (a.height ≤ r) (Operand r (TypeAt r) (NamedAt r) Sub Rel Sum a)) (Done a)) (comparison r sub a) (ops_of Rel) true (form_more Rel)
   law_comparison a t = law_weak (law_choice (λ o. has (lookup (operator_of Rel) o)) (goes_on r a) true (op_test Rel)
-    (λ e. law_where (a.height ≤ r) (leb-true a.height r e) (law_operand Rel Sum (Symbol Equal) ops.Equal refl (room_of a t e) a))
-    (λ e b xs h. shut b xs e h) (λ e. law_done a) (λ e. absurd (cc)) (a, [], right a [] done) refl) refl refl where
-      shut : (c : Found) (xs : List Lexeme) → goes_on r a ≡ false → Where (a.height ≤ r) (Operand r (TypeAt r) (NamedAt r) Sub Rel Sum a) c xs → ⊥
-      shut c xs e (where_holds d us z h) = absurd (omega (arith, leb-false a.height r e, z))
+      (λ e. law_where (a.height ≤ r) (leb-true a.height r e) (law_operand Rel Sum (Symbol Equal) ops.Equal refl (room_of a t e) a))
+      (λ e b xs h. shut b xs e h) (λ e. law_done a) (λ e. absurd (cc)) (a, [], right a [] done) refl) refl refl where
+        shut : (c : Found) (xs : List Lexeme) → goes_on r a ≡ false → Where (a.height ≤ r) (Operand r (TypeAt r) (NamedAt r) Sub Rel Sum a) c xs → ⊥
+        shut c xs e (where_holds d us z h) = absurd (omega (arith, leb-false a.height r e, z))
 
   law_rel : LawForm Rel (ARel r (TypeAt r) (NamedAt r) Sub) (rel_of r sub)
   law_rel = law_weak (law_then law_sum (λ a xs h. law_comparison a (tall_sum a xs h)) refl) refl refl
@@ -294,8 +295,8 @@ module _ (r : ℕ) (Sub : Form → Lang Found) (sub : Form → ℕ → P Found) 
 
   law_neg : LawForm Neg (ANeg r (TypeAt r) (NamedAt r) Sub) (neg_of r sub)
   law_neg = law_weak (law_first_if room
-    (λ e. law_then (law_the (Word KeyNot) tt) (λ p xs h. law_then (law_sub e Neg) (λ a ys i. law_done (found (not_expr p a.tree) (suc a.height) p)) refl) refl)
-    (λ e. none_next (λ p. none_then (none e Neg))) law_rel refl) refl refl
+      (λ e. law_then (law_the (Word KeyNot) tt) (λ p xs h. law_then (law_sub e Neg) (λ a ys i. law_done (found (not_expr p a.tree) (suc a.height) p)) refl) refl)
+      (λ e. none_next (λ p. none_then (none e Neg))) law_rel refl) refl refl
 
   tall_neg : (a : Found) (xs : List Lexeme) → ANeg r (TypeAt r) (NamedAt r) Sub a xs → Tall a
   tall_neg = all_either Tall (all_next Tall (λ p. all_next Tall (λ a. all_done Tall (omega arith)))) tall_rel

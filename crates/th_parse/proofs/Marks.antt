@@ -158,8 +158,10 @@ word_test w v true h = let e : w ≡ v = h.0 refl in rw e (is_mark_same (Word v)
 word_test w v false h = no_test (is_mark (Word v) (Some (Word w))) (λ e. no_flag (h.1 (same_inside w v (tells_mark (Word v) (Word w) tt e)))) where
   no_flag : IsTrue false → ⊥
   no_flag e = cc
+
   same_inside : (w v : Reserved) → Word w ≡ Word v → w ≡ v
   same_inside w v e = cc
+
   no_test : (b : Bool) → (b ≡ true → ⊥) → b ≡ false
   no_test true k = absurd (k refl)
   no_test false k = refl

@@ -29,8 +29,8 @@ module _ {A B : Type 0} {L : A → List Lexeme → Type 0} {Last : B → List Le
   good_many (suc x) n ts =
       good_if (Many L more Last) ts (in_set f1 (peek ts)) _ _
       (λ e. good_bind L (Many L more Last) ts (item n ts) _ (l.good n ts)
-        (λ a us rest h. good_bind (Many L more Last) (λ b ys. Many L more Last b (us ++ ys)) rest (ReadMany x n rest) _ (good_many x n rest)
-          (λ b vs end i. good_got (λ c ys. Many L more Last c (us ++ (vs ++ ys))) end (more a b) (subst (λ y. Many L more Last (more a b) (us ++ y)) (sym (append-nil vs)) (one_more a b us vs h i)))))
+      (λ a us rest h. good_bind (Many L more Last) (λ b ys. Many L more Last b (us ++ ys)) rest (ReadMany x n rest) _ (good_many x n rest)
+      (λ b vs end i. good_got (λ c ys. Many L more Last c (us ++ (vs ++ ys))) end (more a b) (subst (λ y. Many L more Last (more a b) (us ++ y)) (sym (append-nil vs)) (one_more a b us vs h i)))))
       (λ e. good_map Last (Many L more Last) ts (last n ts) (λ b xs h. none_more b xs h) (k.good n ts))
 
   steady_many : (x y n m : ℕ) (ts : List Lexeme) → length ts ≤ x → x ≤ n → y ≤ m → Steady (ReadMany y m) y ts (ReadMany x n ts)
@@ -39,10 +39,10 @@ module _ {A B : Type 0} {L : A → List Lexeme → Type 0} {Last : B → List Le
   steady_many (suc x) (suc y) n m ts z zn zm =
       steady_look (λ o q. if in_set f1 o then bind (item m q) (λ a ts1. bind (ReadMany y m ts1) (λ b ts2. Got (more a b) ts2)) else last m q) (suc y) ts _
       (steady_test (in_set f1 (peek ts)) _ (last m) (suc y) ts _ _
-        (λ e. steady_then L (suc y) ts (item m) (item n ts) _ _ (l.good n ts) (steady_weak _ m (suc y) ts _ zm (l.steady n m ts (omega arith)))
-          (λ a us rest d h. let i = one_long f1 us (l.heads a us h) in let j = shorter x ts us rest z d i in
-            (y, omega arith, steady_bind x y rest _ _ _ _ j (steady_many x y n m rest j (omega arith) (omega arith)) (λ b end w. steady_got y end (more a b)))))
-        (λ e. steady_weak _ m (suc y) ts _ zm (k.steady n m ts (omega arith))))
+      (λ e. steady_then L (suc y) ts (item m) (item n ts) _ _ (l.good n ts) (steady_weak _ m (suc y) ts _ zm (l.steady n m ts (omega arith)))
+      (λ a us rest d h. let i = one_long f1 us (l.heads a us h) in let j = shorter x ts us rest z d i in
+      (y, omega arith, steady_bind x y rest _ _ _ _ j (steady_many x y n m rest j (omega arith) (omega arith)) (λ b end w. steady_got y end (more a b)))))
+      (λ e. steady_weak _ m (suc y) ts _ zm (k.steady n m ts (omega arith))))
 
   abbrev more_many : List ℕ
   more_many = m2 ++ joined_if n2 [] (m1 ++ f1)
@@ -72,7 +72,7 @@ module _ {A B : Type 0} {L : A → List Lexeme → Type 0} {Last : B → List Le
   comes_many (suc x) n b xs rest (one_more a c us vs h i) y z o =
       let long = one_long f1 us (l.heads a us h) in
       let first : item n (us ++ (vs ++ rest)) ≡ Got a (vs ++ rest) = l.comes n a us (vs ++ rest) h (front_le us vs n z)
-        (follows m1 (f1 ++ f2) [] n2 vs rest on (heads_many c vs i) (λ e. (empty_out (code_of (peek rest)) e o).0)) in
+      (follows m1 (f1 ++ f2) [] n2 vs rest on (heads_many c vs i) (λ e. (empty_out (code_of (peek rest)) e o).0)) in
       let next : ReadMany x n (vs ++ rest) ≡ Got c rest = comes_many x n c vs rest i (omega (arith, length-append us vs)) (behind_le us vs n z) o in
       rw (append_assoc us vs rest, begins f1 us (vs ++ rest) (l.heads a us h), first, next) refl
 
@@ -81,7 +81,7 @@ module _ {A B : Type 0} {L : A → List Lexeme → Type 0} {Last : B → List Le
     good = λ n ts. good_many n n ts;
     steady = λ n m ts z. steady_many n m n m ts z (le_refl n) (le_refl m);
     comes = λ n b xs rest h z o. comes_many n n b xs rest h z z o;
-    heads = heads_many
+    heads = heads_many;
   }
 
 -- items with a mark between them
@@ -101,10 +101,10 @@ module _ {A B : Type 0} {L : A → List Lexeme → Type 0} {item : ℕ → P A} 
   good_listed (suc x) n ts =
       good_bind L AList ts (item n ts) _ (l.good n ts)
       (λ a us rest h. good_if (λ b ys. AList b (us ++ ys)) rest (is_mark c (peek rest)) _ _
-        (λ e. good_take (λ b ys. AList b (us ++ ys)) c rest _ (tells c exact rest e)
-          (λ p more_rest. good_bind AList (λ b ys. AList b (us ++ lex c p ∷ ys)) more_rest (ReadList x n more_rest) _ (good_listed x n more_rest)
-            (λ b vs end i. good_got (λ d ys. AList d (us ++ lex c p ∷ (vs ++ ys))) end (more a b) (subst (λ y. AList (more a b) (us ++ lex c p ∷ y)) (sym (append-nil vs)) (one_before a b p us vs h i)))))
-        (λ e. one_item a us rest h))
+      (λ e. good_take (λ b ys. AList b (us ++ ys)) c rest _ (tells c exact rest e)
+      (λ p more_rest. good_bind AList (λ b ys. AList b (us ++ lex c p ∷ ys)) more_rest (ReadList x n more_rest) _ (good_listed x n more_rest)
+      (λ b vs end i. good_got (λ d ys. AList d (us ++ lex c p ∷ (vs ++ ys))) end (more a b) (subst (λ y. AList (more a b) (us ++ lex c p ∷ y)) (sym (append-nil vs)) (one_before a b p us vs h i)))))
+      (λ e. one_item a us rest h))
 
   steady_listed : (x y n m : ℕ) (ts : List Lexeme) → length ts ≤ x → x ≤ n → y ≤ m → Steady (ReadList y m) y ts (ReadList x n ts)
   steady_listed x zero n m ts z zn zm = steady_none _ _ ts _ (good_listed x n ts)
@@ -112,9 +112,9 @@ module _ {A B : Type 0} {L : A → List Lexeme → Type 0} {item : ℕ → P A} 
   steady_listed (suc x) (suc y) n m ts z zn zm =
       steady_bind (suc x) (suc y) ts _ _ _ _ z (steady_weak _ m (suc y) ts _ zm (l.steady n m ts (omega arith)))
       (λ a rest i. steady_look (λ o q. if is_mark c o then bind (take_one q) (λ t ts2. bind (ReadList y m ts2) (λ b ts3. Got (more a b) ts3)) else Got (more a none) q) (suc y) rest _
-        (steady_test (is_mark c (peek rest)) _ (Got (more a none)) (suc y) rest _ _
-          (λ e. steady_take x y rest _ _ i (λ t more_rest j. steady_bind x y more_rest _ _ _ _ j (steady_listed x y n m more_rest j (omega arith) (omega arith)) (λ b end w. steady_got y end (more a b))))
-          (λ e. steady_got (suc y) rest (more a none))))
+      (steady_test (is_mark c (peek rest)) _ (Got (more a none)) (suc y) rest _ _
+      (λ e. steady_take x y rest _ _ i (λ t more_rest j. steady_bind x y more_rest _ _ _ _ j (steady_listed x y n m more_rest j (omega arith) (omega arith)) (λ b end w. steady_got y end (more a b))))
+      (λ e. steady_got (suc y) rest (more a none))))
 
   not_more : (rest : List Lexeme) → in_set (code c ∷ m1) (peek rest) ≡ false → (is_mark c (peek rest) ≡ false) × (in_set m1 (peek rest) ≡ false)
   not_more rest o = (out_left (code_of (peek rest)) (code c ∷ []) m1 o, out_right (code_of (peek rest)) (code c ∷ []) m1 o)
@@ -143,7 +143,7 @@ module _ {A B : Type 0} {L : A → List Lexeme → Type 0} {item : ℕ → P A} 
     good = λ n ts. good_listed n n ts;
     steady = λ n m ts z. steady_listed n m n m ts z (le_refl n) (le_refl m);
     comes = λ n b xs rest h z o. comes_listed n n b xs rest h z z o;
-    heads = heads_listed
+    heads = heads_listed;
   }
 
 -- steps: each takes an open value to a greater one, and no step leaves a closed one
@@ -156,9 +156,9 @@ module _ {A : Type 0} {Step : A → A → List Lexeme → Type 0} {step : A → 
   good_steps (suc k) n a ts j =
       good_if (Steps Step a) ts (test (peek ts)) _ _
       (λ e. good_if (Steps Step a) ts (goes a) _ _
-        (λ g. good_bind (Step a) (Steps Step a) ts (step a n ts) _ ((l a j g).good n ts)
-          (λ b us rest h. good_map (Steps Step b) (λ c ys. Steps Step a c (us ++ ys)) rest _ (λ c vs i. a_step a b c us vs h i) (good_steps k n b rest (grows a b us j h).0)))
-        (λ g. good_bad (Steps Step a) ts [] a (no_step a)))
+      (λ g. good_bind (Step a) (Steps Step a) ts (step a n ts) _ ((l a j g).good n ts)
+      (λ b us rest h. good_map (Steps Step b) (λ c ys. Steps Step a c (us ++ ys)) rest _ (λ c vs i. a_step a b c us vs h i) (good_steps k n b rest (grows a b us j h).0)))
+      (λ g. good_bad (Steps Step a) ts [] a (no_step a)))
       (λ e. good_got (Steps Step a) ts a (no_step a))
 
   steady_steps : (k n m : ℕ) (a : A) (ts : List Lexeme) → Is a → length ts ≤ n → Steady (steps test goes step k a m) m ts (steps test goes step k a n ts)
@@ -166,11 +166,11 @@ module _ {A : Type 0} {Step : A → A → List Lexeme → Type 0} {step : A → 
   steady_steps (suc k) n m a ts j z =
       steady_look (λ o q. if test o then (if goes a then bind (step a m q) (λ b ts1. steps test goes step k b m ts1) else Bad q) else Got a q) m ts _
       (steady_test (test (peek ts)) (λ q. if goes a then bind (step a m q) (λ b ts1. steps test goes step k b m ts1) else Bad q) (Got a) m ts _ _
-        (λ e. steady_test (goes a) _ Bad m ts _ _
-          (λ g. steady_then (Step a) m ts (step a m) (step a n ts) _ _ ((l a j g).good n ts) ((l a j g).steady n m ts z)
-            (λ b us rest d h. (m, omega arith, steady_steps k n m b rest (grows a b us j h).0 (rest_le n ts us rest z d))))
-          (λ g. steady_bad m ts))
-        (λ e. steady_got m ts a))
+      (λ e. steady_test (goes a) _ Bad m ts _ _
+      (λ g. steady_then (Step a) m ts (step a m) (step a n ts) _ _ ((l a j g).good n ts) ((l a j g).steady n m ts z)
+      (λ b us rest d h. (m, omega arith, steady_steps k n m b rest (grows a b us j h).0 (rest_le n ts us rest z d))))
+      (λ g. steady_bad m ts))
+      (λ e. steady_got m ts a))
 
   heads_steps : (a b : A) (xs : List Lexeme) → Is a → Steps Step a b xs → Heads f true xs
   heads_steps a b xs j (no_step c) = refl
@@ -178,6 +178,7 @@ module _ {A : Type 0} {Step : A → A → List Lexeme → Type 0} {step : A → 
     front : (us vs : List Lexeme) → Heads f false us → Heads f true (us ++ vs)
     front [] vs h = absurd (cc)
     front (t ∷ ts) vs h = h
+
     go : (g : Bool) → goes a ≡ g → Heads f true (us ++ vs)
     go true e = front us vs ((l a j e).heads c us h)
     go false e = absurd (closed a c us e h)
@@ -199,8 +200,8 @@ module _ {A : Type 0} {Step : A → A → List Lexeme → Type 0} {step : A → 
       let tail : Heads f true vs = heads_steps c d vs grown.0 i in
       decide (goes a) (λ g. (if test (peek ((us ++ vs) ++ rest)) then (if g then bind (step a n ((us ++ vs) ++ rest)) (λ b ts1. steps test goes step k b n ts1) else Bad ((us ++ vs) ++ rest)) else Got a ((us ++ vs) ++ rest)) ≡ Got d rest)
       (λ e. let la = l a j e in
-        let first : step a n (us ++ (vs ++ rest)) ≡ Got c (vs ++ rest) = la.comes n c us (vs ++ rest) h (front_le us vs n z) (follows m1 f [] true vs rest on tail (λ q. out_right (code_of (peek rest)) f m1 o)) in
-        rw (append_assoc us vs rest, is (peek (us ++ (vs ++ rest))), begins f us (vs ++ rest) (la.heads c us h), first) next)
+      let first : step a n (us ++ (vs ++ rest)) ≡ Got c (vs ++ rest) = la.comes n c us (vs ++ rest) h (front_le us vs n z) (follows m1 f [] true vs rest on tail (λ q. out_right (code_of (peek rest)) f m1 o)) in
+      rw (append_assoc us vs rest, is (peek (us ++ (vs ++ rest))), begins f us (vs ++ rest) (la.heads c us h), first) next)
       (λ e. absurd (closed a c us e h))
 
   pub law_steps : (k : ℕ) (a : A) → Is a → suc r ≤ size a + k → Law (Steps Step a) (steps test goes step k a) f true (f ++ m1)
@@ -208,5 +209,5 @@ module _ {A : Type 0} {Step : A → A → List Lexeme → Type 0} {step : A → 
     good = λ n ts. good_steps k n a ts j;
     steady = λ n m ts z. steady_steps k n m a ts j z;
     comes = λ n b xs rest h z o. comes_steps k n a b xs rest j w h z o;
-    heads = λ b xs h. heads_steps a b xs j h
+    heads = λ b xs h. heads_steps a b xs j h;
   }

@@ -50,17 +50,17 @@ bind_on : {A B : Type 0} (g : P A) (k : A → P B) (m n : ℕ) (ts xs rest : Lis
 bind_on g k m n ts xs rest a r e h (gots b ys more d i) =
     gots b (xs ++ ys) more (subst (λ l. ts ≡ l) (sym (append_assoc xs ys more)) (subst (λ l. ts ≡ xs ++ l) d e))
     (λ t p zs c l.
-      let l1 : length (xs ++ (ys ++ t ∷ zs)) ≤ m = subst (λ q. length q ≤ m) (append_assoc xs ys (t ∷ zs)) l in
-      let l2 : length (ys ++ t ∷ zs) ≤ m = omega (arith, length-append xs (ys ++ t ∷ zs)) in
-      subst (λ q. bind (g q) k ≡ Got b (t ∷ zs)) (sym (append_assoc xs ys (t ∷ zs)))
-      (subst (λ q. bind q k ≡ Got b (t ∷ zs)) (sym (again_on g m a xs ys rest more t p zs h d c l1)) (i t p zs c l2)))
+    let l1 : length (xs ++ (ys ++ t ∷ zs)) ≤ m = subst (λ q. length q ≤ m) (append_assoc xs ys (t ∷ zs)) l in
+    let l2 : length (ys ++ t ∷ zs) ≤ m = omega (arith, length-append xs (ys ++ t ∷ zs)) in
+    subst (λ q. bind (g q) k ≡ Got b (t ∷ zs)) (sym (append_assoc xs ys (t ∷ zs)))
+    (subst (λ q. bind q k ≡ Got b (t ∷ zs)) (sym (again_on g m a xs ys rest more t p zs h d c l1)) (i t p zs c l2)))
 bind_on g k m n ts xs rest a r e h (stops ys more d i) =
     stops (xs ++ ys) more (subst (λ l. ts ≡ l) (sym (append_assoc xs ys more)) (subst (λ l. ts ≡ xs ++ l) d e))
     (λ t p zs c l.
-      let l1 : length (xs ++ (ys ++ t ∷ zs)) ≤ m = subst (λ q. length q ≤ m) (append_assoc xs ys (t ∷ zs)) l in
-      let l2 : length (ys ++ t ∷ zs) ≤ m = omega (arith, length-append xs (ys ++ t ∷ zs)) in
-      subst (λ q. bind (g q) k ≡ Bad (t ∷ zs)) (sym (append_assoc xs ys (t ∷ zs)))
-      (subst (λ q. bind q k ≡ Bad (t ∷ zs)) (sym (again_on g m a xs ys rest more t p zs h d c l1)) (i t p zs c l2)))
+    let l1 : length (xs ++ (ys ++ t ∷ zs)) ≤ m = subst (λ q. length q ≤ m) (append_assoc xs ys (t ∷ zs)) l in
+    let l2 : length (ys ++ t ∷ zs) ≤ m = omega (arith, length-append xs (ys ++ t ∷ zs)) in
+    subst (λ q. bind (g q) k ≡ Bad (t ∷ zs)) (sym (append_assoc xs ys (t ∷ zs)))
+    (subst (λ q. bind q k ≡ Bad (t ∷ zs)) (sym (again_on g m a xs ys rest more t p zs h d c l1)) (i t p zs c l2)))
 
 shorter : (n : ℕ) (ts xs rest : List Lexeme) → length ts ≤ n → ts ≡ xs ++ rest → length rest ≤ n
 shorter n ts xs rest l e = let d : length (xs ++ rest) ≤ n = subst (λ q. length q ≤ n) e l in omega (arith, length-append xs rest)

@@ -139,15 +139,15 @@ pub numbering_goes : (old : List (List ℕ)) (text : List ℕ) (all left : List 
 numbering_goes old text all left t table new found more l n e h i j =
     let g = token_grown table t.kind (bytes_of text t) in
     let same : new ≡ table ++ g.0 = e ∙ g.1 in record {
-    front = n.front ++ t ∷ [];
-    split = n.split ∙ sym (append_assoc n.front (t ∷ []) left);
-    lexemes = j ∙ (ap (λ y. y ++ l ∷ []) (n.lexemes ∙ sym (subst (λ y. lexemes_of y text n.front ≡ lexemes_of table text n.front) (sym same) (lexemes_stable table g.0 text n.front n.there)))
-      ∙ (ap (λ y. lexemes_of new text n.front ++ y ∷ []) i ∙ sym (lexemes_push new text n.front t)));
-    there = all_push new text n.front t (subst (λ y. AllThere y text n.front) (sym same) (all_more table g.0 text n.front n.there)) h;
-    names = n.names ∙ ap (λ y. with_tokens y text left) (sym e);
-    grown = (n.grown.0 ++ g.0, same ∙ (ap (λ y. y ++ g.0) n.grown.1 ∙ append_assoc old n.grown.0 g.0));
-    short = subst (λ y. length y ≤ length old + length (n.front ++ t ∷ [])) (sym e) (omega (arith, token_short table t.kind (bytes_of text t), n.short, length-append n.front (t ∷ [])))
-  }
+      front = n.front ++ t ∷ [];
+      split = n.split ∙ sym (append_assoc n.front (t ∷ []) left);
+      lexemes = j ∙ (ap (λ y. y ++ l ∷ []) (n.lexemes ∙ sym (subst (λ y. lexemes_of y text n.front ≡ lexemes_of table text n.front) (sym same) (lexemes_stable table g.0 text n.front n.there)))
+          ∙ (ap (λ y. lexemes_of new text n.front ++ y ∷ []) i ∙ sym (lexemes_push new text n.front t)));
+      there = all_push new text n.front t (subst (λ y. AllThere y text n.front) (sym same) (all_more table g.0 text n.front n.there)) h;
+      names = n.names ∙ ap (λ y. with_tokens y text left) (sym e);
+      grown = (n.grown.0 ++ g.0, same ∙ (ap (λ y. y ++ g.0) n.grown.1 ∙ append_assoc old n.grown.0 g.0));
+      short = subst (λ y. length y ≤ length old + length (n.front ++ t ∷ [])) (sym e) (omega (arith, token_short table t.kind (bytes_of text t), n.short, length-append n.front (t ∷ [])));
+    }
 
 pub number_is : (old new : List (List ℕ)) (n : List ℕ) (i : ℕ) → i ≡ place_of old n → new ≡ with_name old n → i ≡ place_of new n
 number_is old new n i e d = e ∙ (name_place old n ∙ ap (λ t. place_of t n) (sym d))

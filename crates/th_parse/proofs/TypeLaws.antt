@@ -28,8 +28,8 @@ LawType L run = Law L run type_first false type_more
 module _ (r : ℕ) (SubType : Lang TypeSyn) (sub : ℕ → P TypeSyn) (law_sub : nat_lt 0 r ≡ true → LawType SubType sub) (none : nat_lt 0 r ≡ false → (t : TypeSyn) (xs : List Lexeme) → SubType t xs → ⊥) where
   law_args : Law (TypeArgs SubType) (type_args r sub) (code (Symbol OpenSquare) ∷ []) true (code (Symbol OpenSquare) ∷ [])
   law_args = law_weak (law_first_if (nat_lt 0 r)
-    (λ e. law_between (Symbol OpenSquare) (Symbol CloseSquare) tt tt (law_listed (Symbol Comma) more_types no_type (law_sub e) tt refl) refl)
-    (λ e. none_between (none_listed (none e))) (law_done no_type) refl) refl refl
+      (λ e. law_between (Symbol OpenSquare) (Symbol CloseSquare) tt tt (law_listed (Symbol Comma) more_types no_type (law_sub e) tt refl) refl)
+      (λ e. none_between (none_listed (none e))) (law_done no_type) refl) refl refl
 
   law_named_type : Law (Named SubType) (named_type_of r sub) (0 ∷ []) false type_more
   law_named_type = law_weak (law_then law_ref (λ a xs h. law_then law_args (λ ts ys i. law_done (record { item = a; args = ts })) refl) refl) refl refl
@@ -39,11 +39,11 @@ module _ (r : ℕ) (SubType : Lang TypeSyn) (sub : ℕ → P TypeSyn) (law_sub :
 
   law_type_of : LawType (AType SubType) (type_of r sub)
   law_type_of = law_weak
-    (law_either (law_place (Word KeyInt) tt int_type)
-    (law_either (law_place (Word KeyBool) tt bool_type)
-    (law_either (law_place (Word KeyString) tt text_type)
-    (law_first_if (nat_lt 0 r) law_array_type (λ e. none_next (λ p. none_then (none_between (none e))))
-    (law_then law_named_type (λ n xs h. law_done (named_type n.item n.args)) refl) refl) refl) refl) refl) refl refl
+      (law_either (law_place (Word KeyInt) tt int_type)
+      (law_either (law_place (Word KeyBool) tt bool_type)
+      (law_either (law_place (Word KeyString) tt text_type)
+      (law_first_if (nat_lt 0 r) law_array_type (λ e. none_next (λ p. none_then (none_between (none e))))
+      (law_then law_named_type (λ n xs h. law_done (named_type n.item n.args)) refl) refl) refl) refl) refl) refl refl
 
 no_room : (r : ℕ) → nat_lt 0 r ≡ false → (t : TypeSyn) (xs : List Lexeme) → TypeAt r t xs → ⊥
 no_room zero e t xs h = h

@@ -116,7 +116,7 @@ module _ (r : ℕ) (sub : Form → ℕ → P Found) where
   abbrev pub member_of : Found → ℕ → P Found
   member_of a = either (Word KeyLength) (after (Word KeyLength) (ret (found (length_expr a.start a.tree) (suc a.height) a.start)))
       (seq read_name (λ m. either (Symbol OpenParen) (seq args_of (λ bs. ret (found (method_expr a.start a.tree m bs.trees) (suc (max a.height bs.height)) a.start)))
-        (ret (found (field_expr a.start a.tree m) (suc a.height) a.start))))
+      (ret (found (field_expr a.start a.tree m) (suc a.height) a.start))))
 
   abbrev pub suffix_of : Found → ℕ → P Found
   suffix_of a = either (Symbol Dot) (after (Symbol Dot) (member_of a))

@@ -181,8 +181,8 @@ abbrev pub listed : {A B : Type 0} → Mark → (ℕ → P A) → (A → B → B
 listed c item more none zero n ts = bind (item n ts) (λ a ts1. Got (more a none) ts1)
 listed c item more none (suc k) n ts =
     bind (item n ts) (λ a ts1. if is_mark c (peek ts1)
-      then bind (take_one ts1) (λ t ts2. bind (listed c item more none k n ts2) (λ b ts3. Got (more a b) ts3))
-      else Got (more a none) ts1)
+    then bind (take_one ts1) (λ t ts2. bind (listed c item more none k n ts2) (λ b ts3. Got (more a b) ts3))
+    else Got (more a none) ts1)
 
 -- steps from a value on, as long as the test holds of the next mark; where the value is closed that mark is wrong
 abbrev pub steps : {A : Type 0} → (Option Mark → Bool) → (A → Bool) → (A → ℕ → P A) → ℕ → A → ℕ → P A

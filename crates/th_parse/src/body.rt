@@ -9,8 +9,8 @@ ghost use Rattle.th_parse.specs.Answer.{IsBodyAnswer, UnlessMemory, OneTree};
 use crate::numbering::lexemes;
 use crate::step::{Reader, Stop};
 use std::alloc::{AllocError, Global};
-use thiserror::Error;
 use th_tree::{Body, Lexeme, NameTable, Tokens};
+use thiserror::Error;
 
 /// Why tokens have no tree.
 #[derive(Clone, Copy, Debug, Drop, Error)]
@@ -38,7 +38,13 @@ pub fn place_of(tokens: &[Lexeme], end: u32) -> u32
 }
 
 /// Statements up to the height `room`, from token `from` on.
-fn body_at(alloc: Global, room: u32, tokens: &Tokens<'_>, names: &mut NameTable, from: usize) -> Result<(Body, usize), ParseError>
+fn body_at(
+    alloc: Global,
+    room: u32,
+    tokens: &Tokens<'_>,
+    names: &mut NameTable,
+    from: usize,
+) -> Result<(Body, usize), ParseError>
     requires some { 0 < room }
     requires low { room < 1000 }
     requires within { from ≤ length tokens.now.list }
@@ -51,10 +57,16 @@ fn body_at(alloc: Global, room: u32, tokens: &Tokens<'_>, names: &mut NameTable,
     let Ok(found) = lexemes(alloc, tokens, names, from) else {
         return Err(ParseError::Memory);
     };
-    let reader = Reader { alloc, most: found.len() };
+    let reader = Reader {
+        alloc,
+        most: found.len(),
+    };
     match reader.body(room, &found) {
         Ok((body, rest)) => Ok((body, tokens.len() - rest.len())),
-        Err(Stop::Wrong(rest)) => Err(ParseError::Syntax(place_of(rest, tokens.text().len() as u32))),
+        Err(Stop::Wrong(rest)) => Err(ParseError::Syntax(place_of(
+            rest,
+            tokens.text().len() as u32,
+        ))),
         Err(Stop::Memory) => Err(ParseError::Memory),
     }
 }
@@ -62,7 +74,12 @@ fn body_at(alloc: Global, room: u32, tokens: &Tokens<'_>, names: &mut NameTable,
 /// The statements that start at token `from`, and the place of the first token that begins no statement.
 /// docs/LANGUAGE.md, "Grammar", states which tokens are statements. After an error the table has perhaps more names at
 /// its end.
-pub fn parse_body(alloc: Global, tokens: &Tokens<'_>, names: &mut NameTable, from: usize) -> Result<(Body, usize), ParseError>
+pub fn parse_body(
+    alloc: Global,
+    tokens: &Tokens<'_>,
+    names: &mut NameTable,
+    from: usize,
+) -> Result<(Body, usize), ParseError>
     requires within { from ≤ length tokens.now.list }
     requires room { length names.old + length tokens.now.list < 2 ^ 32 - 1 }
     requires short { length tokens.now.text < 2 ^ 32 }

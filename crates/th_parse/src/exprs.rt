@@ -81,14 +81,23 @@ fn more_first<'a>(alloc: Global, tree: Expr, trees: ExprList) -> Result<ExprList
 }
 
 /// Two operands with an operator between them.
-fn binary<'a>(alloc: Global, op: BinaryOp, left: ReadExpr, right: ReadExpr) -> Result<ReadExpr, Stop<'a>>
+fn binary<'a>(
+    alloc: Global,
+    op: BinaryOp,
+    left: ReadExpr,
+    right: ReadExpr,
+) -> Result<ReadExpr, Stop<'a>>
     requires { (left.height < 1000) × (right.height < 1000) }
     ensures { MatchResult result (λ r. read_of r ≡ joined op (read_of left) (read_of right)) (λ e. e ≡ Memory) }
 {
     let height = 1 + larger(left.height, right.height);
     let a = boxed(alloc, left.tree)?;
     let b = boxed(alloc, right.tree)?;
-    Ok(ReadExpr { tree: Expr::Binary(left.start, op, a, b), height, start: left.start })
+    Ok(ReadExpr {
+        tree: Expr::Binary(left.start, op, a, b),
+        height,
+        start: left.start,
+    })
 }
 
 /// Which operator between operands of the form is next.
@@ -164,7 +173,11 @@ fn at_suffix(tokens: &[Lexeme]) -> bool
 fn leaf(tree: Expr, start: u32) -> ReadExpr
     ensures { read_of result ≡ found (tree_of tree) 1 start }
 {
-    ReadExpr { tree, height: 1, start }
+    ReadExpr {
+        tree,
+        height: 1,
+        start,
+    }
 }
 
 impl Reader {
@@ -230,7 +243,14 @@ impl Reader {
         let (at, rest) = word(tokens, Reserved::KeyNot)?;
         let (of, rest) = self.expr(Level::Neg, r, rest)?;
         let tree = Expr::Not(at, boxed(self.alloc, of.tree)?);
-        Ok((ReadExpr { tree, height: of.height + 1, start: at }, rest))
+        Ok((
+            ReadExpr {
+                tree,
+                height: of.height + 1,
+                start: at,
+            },
+            rest,
+        ))
     }
 
     /// A sum.
@@ -261,12 +281,26 @@ impl Reader {
         let (at, rest) = symbol(tokens, Sym::Minus)?;
         let (of, rest) = self.expr(Level::Unary, r, rest)?;
         let tree = Expr::Negative(at, boxed(self.alloc, of.tree)?);
-        Ok((ReadExpr { tree, height: of.height + 1, start: at }, rest))
+        Ok((
+            ReadExpr {
+                tree,
+                height: of.height + 1,
+                start: at,
+            },
+            rest,
+        ))
     }
 
     /// Further operands of a chain, after `left`.
     #[cycle(exprs)]
-    fn chained<'a>(self, level: Level, next: Level, r: u32, left: ReadExpr, tokens: &'a [Lexeme]) -> Step<'a, ReadExpr>
+    fn chained<'a>(
+        self,
+        level: Level,
+        next: Level,
+        r: u32,
+        left: ReadExpr,
+        tokens: &'a [Lexeme],
+    ) -> Step<'a, ReadExpr>
         requires small { r < 999 }
         requires low { left.height ≤ r + 1 }
         ensures gives { Gives (λ x. read_of x.0) (λ x. x.1.now) result (chain r (read_form r) (form_named level) (form_named next) (read_of left) self.most tokens.now) }
@@ -290,7 +324,14 @@ impl Reader {
 
     /// An operator and an operand, after `left`.
     #[cycle(exprs)]
-    fn operand<'a>(self, level: Level, next: Level, r: u32, left: ReadExpr, tokens: &'a [Lexeme]) -> Step<'a, ReadExpr>
+    fn operand<'a>(
+        self,
+        level: Level,
+        next: Level,
+        r: u32,
+        left: ReadExpr,
+        tokens: &'a [Lexeme],
+    ) -> Step<'a, ReadExpr>
         requires small { r < 999 }
         requires low { left.height ≤ r }
         ensures gives { Gives (λ x. read_of x.0) (λ x. x.1.now) result (operand_of r (read_form r) (form_named level) (form_named next) (read_of left) self.most tokens.now) }
@@ -358,7 +399,14 @@ impl Reader {
         let height = 1 + larger(left.height, place.height);
         let of = boxed(self.alloc, left.tree)?;
         let tree = Expr::Element(left.start, of, boxed(self.alloc, place.tree)?);
-        Ok((ReadExpr { tree, height, start: left.start }, rest))
+        Ok((
+            ReadExpr {
+                tree,
+                height,
+                start: left.start,
+            },
+            rest,
+        ))
     }
 
     /// What follows the `.` after `left`.
@@ -372,18 +420,39 @@ impl Reader {
         if at_word(tokens, Reserved::KeyLength) {
             let (_, rest) = word(tokens, Reserved::KeyLength)?;
             let tree = Expr::Length(left.start, boxed(self.alloc, left.tree)?);
-            return Ok((ReadExpr { tree, height: left.height + 1, start: left.start }, rest));
+            return Ok((
+                ReadExpr {
+                    tree,
+                    height: left.height + 1,
+                    start: left.start,
+                },
+                rest,
+            ));
         }
         let (method, rest) = name(tokens)?;
         if !at_symbol(rest, Sym::OpenParen) {
             let tree = Expr::Field(left.start, boxed(self.alloc, left.tree)?, method);
-            return Ok((ReadExpr { tree, height: left.height + 1, start: left.start }, rest));
+            return Ok((
+                ReadExpr {
+                    tree,
+                    height: left.height + 1,
+                    start: left.start,
+                },
+                rest,
+            ));
         }
         let (args, rest) = self.args(r, rest)?;
         let height = 1 + larger(left.height, args.height);
         let of = boxed(self.alloc, left.tree)?;
         let tree = Expr::Method(left.start, of, method, boxed_list(self.alloc, args.trees)?);
-        Ok((ReadExpr { tree, height, start: left.start }, rest))
+        Ok((
+            ReadExpr {
+                tree,
+                height,
+                start: left.start,
+            },
+            rest,
+        ))
     }
 
     /// An atom.
@@ -425,7 +494,14 @@ impl Reader {
         let (at, rest) = symbol(tokens, Sym::OpenParen)?;
         let (of, rest) = self.expr(Level::Expr, r, rest)?;
         let (_, rest) = symbol(rest, Sym::CloseParen)?;
-        Ok((ReadExpr { tree: of.tree, height: of.height + 1, start: at }, rest))
+        Ok((
+            ReadExpr {
+                tree: of.tree,
+                height: of.height + 1,
+                start: at,
+            },
+            rest,
+        ))
     }
 
     /// `super`, `.`, a method and arguments.
@@ -440,7 +516,14 @@ impl Reader {
         let (method, rest) = name(rest)?;
         let (args, rest) = self.args(r, rest)?;
         let tree = Expr::Super(at, method, boxed_list(self.alloc, args.trees)?);
-        Ok((ReadExpr { tree, height: args.height + 1, start: at }, rest))
+        Ok((
+            ReadExpr {
+                tree,
+                height: args.height + 1,
+                start: at,
+            },
+            rest,
+        ))
     }
 
     /// `new` and what follows, where there is room.
@@ -461,7 +544,14 @@ impl Reader {
         let (args, rest) = self.args(r, rest)?;
         let height = 1 + larger(class.height + 1, args.height);
         let tree = Expr::New(at, class.tree, boxed_list(self.alloc, args.trees)?);
-        Ok((ReadExpr { tree, height, start: at }, rest))
+        Ok((
+            ReadExpr {
+                tree,
+                height,
+                start: at,
+            },
+            rest,
+        ))
     }
 
     /// `array` and what follows, after a `new` at `at`.
@@ -483,7 +573,14 @@ impl Reader {
         let height = 1 + larger(of.height, larger(length.height, fill.height));
         let length = boxed(self.alloc, length.tree)?;
         let tree = Expr::NewArray(at, of.tree, length, boxed(self.alloc, fill.tree)?);
-        Ok((ReadExpr { tree, height, start: at }, rest))
+        Ok((
+            ReadExpr {
+                tree,
+                height,
+                start: at,
+            },
+            rest,
+        ))
     }
 
     /// A reference, types in braces and arguments, of which the last two may be missing.
@@ -498,13 +595,27 @@ impl Reader {
         let start = item.first.at;
         if !at_symbol(rest, Sym::OpenParen) {
             let tree = Expr::Item(start, item, boxed_types(self.alloc, types.trees)?);
-            return Ok((ReadExpr { tree, height: types.height + 1, start }, rest));
+            return Ok((
+                ReadExpr {
+                    tree,
+                    height: types.height + 1,
+                    start,
+                },
+                rest,
+            ));
         }
         let (args, rest) = self.args(r, rest)?;
         let height = 1 + larger(types.height, args.height);
         let trees = boxed_types(self.alloc, types.trees)?;
         let tree = Expr::Call(start, item, trees, boxed_list(self.alloc, args.trees)?);
-        Ok((ReadExpr { tree, height, start }, rest))
+        Ok((
+            ReadExpr {
+                tree,
+                height,
+                start,
+            },
+            rest,
+        ))
     }
 
     /// Types in braces, or nothing.
@@ -515,7 +626,13 @@ impl Reader {
         ensures low { IfOk result (λ x. x.0.height ≤ r) }
     {
         if !at_symbol(tokens, Sym::OpenBrace) {
-            return Ok((ReadTypes { trees: TypeList::NoType, height: 0 }, tokens));
+            return Ok((
+                ReadTypes {
+                    trees: TypeList::NoType,
+                    height: 0,
+                },
+                tokens,
+            ));
         }
         if r == 0 {
             return Err(Stop::Wrong(tokens));
@@ -536,7 +653,13 @@ impl Reader {
         let (_, rest) = symbol(tokens, Sym::OpenParen)?;
         if at_symbol(rest, Sym::CloseParen) {
             let (_, rest) = symbol(rest, Sym::CloseParen)?;
-            return Ok((ReadExprs { trees: ExprList::NoExpr, height: 0 }, rest));
+            return Ok((
+                ReadExprs {
+                    trees: ExprList::NoExpr,
+                    height: 0,
+                },
+                rest,
+            ));
         }
         if r == 0 {
             return Err(Stop::Wrong(rest));
@@ -561,7 +684,13 @@ impl Reader {
             height = larger(height, one.height);
             back = more_first(self.alloc, one.tree, back)?;
             if !at_symbol(after, Sym::Comma) {
-                return Ok((ReadExprs { trees: back.turned(ExprList::NoExpr), height }, after));
+                return Ok((
+                    ReadExprs {
+                        trees: back.turned(ExprList::NoExpr),
+                        height,
+                    },
+                    after,
+                ));
             }
             let (_, next) = symbol(after, Sym::Comma)?;
             rest = next;
@@ -569,7 +698,13 @@ impl Reader {
         let (one, after) = self.expr(Level::Expr, r, rest)?;
         let height = larger(height, one.height);
         let back = more_first(self.alloc, one.tree, back)?;
-        Ok((ReadExprs { trees: back.turned(ExprList::NoExpr), height }, after))
+        Ok((
+            ReadExprs {
+                trees: back.turned(ExprList::NoExpr),
+                height,
+            },
+            after,
+        ))
     }
 }
 

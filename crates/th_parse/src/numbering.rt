@@ -28,7 +28,12 @@ fn value_of(alloc: Global, literal: &[u8]) -> Result<Vec<u8>, AllocError>
 }
 
 /// The mark of a token of the kind that is written so; a name or a literal gets a number in the table.
-fn mark(alloc: Global, names: &mut NameTable, kind: TokenKind, bytes: &[u8]) -> Result<Mark, AllocError>
+fn mark(
+    alloc: Global,
+    names: &mut NameTable,
+    kind: TokenKind,
+    bytes: &[u8],
+) -> Result<Mark, AllocError>
     requires { length names.old < 2 ^ 32 - 1 }
     ensures mark { IfOk result (λ mark. mark ≡ mark_of names.new kind bytes.now) }
     ensures there { OnOk result (TokenThere names.new kind bytes.now) }
@@ -48,7 +53,12 @@ fn mark(alloc: Global, names: &mut NameTable, kind: TokenKind, bytes: &[u8]) -> 
 }
 
 /// The lexemes of the tokens from token `from` on. After an error the table has perhaps more names at its end.
-pub fn lexemes(alloc: Global, tokens: &Tokens<'_>, names: &mut NameTable, from: usize) -> Result<Vec<Lexeme>, AllocError>
+pub fn lexemes(
+    alloc: Global,
+    tokens: &Tokens<'_>,
+    names: &mut NameTable,
+    from: usize,
+) -> Result<Vec<Lexeme>, AllocError>
     requires within { from ≤ length tokens.now.list }
     requires room { length names.old + length tokens.now.list < 2 ^ 32 - 1 }
     ensures lexemes { IfOk result (λ lexemes. lexemes.items ≡ lexemes_of names.new tokens.now.text (drop from tokens.now.list)) }
@@ -59,7 +69,10 @@ pub fn lexemes(alloc: Global, tokens: &Tokens<'_>, names: &mut NameTable, from: 
     for k in from..tokens.len() {
         let token = tokens.as_slice()[k];
         let mark = mark(alloc, names, token.kind, tokens.slice(k))?;
-        found.push(Lexeme { mark, at: token.start })?;
+        found.push(Lexeme {
+            mark,
+            at: token.start,
+        })?;
     }
     Ok(found)
 }

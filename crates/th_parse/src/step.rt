@@ -30,7 +30,13 @@ pub fn at_symbol(tokens: &[Lexeme], sym: Sym) -> bool
     ensures { is_mark (Symbol sym) (peek tokens.now) ≡ result }
 {
     match tokens {
-        [Lexeme { mark: Mark::Symbol(next), .. }, ..] => *next == sym,
+        [
+            Lexeme {
+                mark: Mark::Symbol(next),
+                ..
+            },
+            ..
+        ] => *next == sym,
         _ => false,
     }
 }
@@ -85,7 +91,19 @@ pub fn name(tokens: &[Lexeme]) -> Step<'_, Ident>
     ensures { Gives (λ x. x.0) (λ x. x.1.now) result (read_name 0 tokens.now) }
 {
     match tokens {
-        [Lexeme { mark: Mark::Name(name), at }, rest @ ..] => Ok((Ident { name: *name, at: *at }, rest)),
+        [
+            Lexeme {
+                mark: Mark::Name(name),
+                at,
+            },
+            rest @ ..,
+        ] => Ok((
+            Ident {
+                name: *name,
+                at: *at,
+            },
+            rest,
+        )),
         _ => Err(Stop::Wrong(tokens)),
     }
 }
@@ -96,9 +114,21 @@ pub fn reference(tokens: &[Lexeme]) -> Step<'_, RefTree>
 {
     let (first, rest) = name(tokens)?;
     if !at_symbol(rest, Sym::Dollar) {
-        return Ok((RefTree { first, second: None }, rest));
+        return Ok((
+            RefTree {
+                first,
+                second: None,
+            },
+            rest,
+        ));
     }
     let (_, rest) = symbol(rest, Sym::Dollar)?;
     let (second, rest) = name(rest)?;
-    Ok((RefTree { first, second: Some(second) }, rest))
+    Ok((
+        RefTree {
+            first,
+            second: Some(second),
+        },
+        rest,
+    ))
 }

@@ -83,7 +83,13 @@ fn more_when<'a>(alloc: Global, part: WhenRead, rest: WhenList) -> Result<WhenLi
     ensures { MatchResult result (λ l. handlers_of l ≡ more_handlers (when_part part) (handlers_of rest)) (λ e. e ≡ Memory) }
 {
     let body = boxed_body(alloc, part.body)?;
-    Ok(WhenList::MoreWhen(part.at, part.exc, part.variable, body, boxed_whens(alloc, rest)?))
+    Ok(WhenList::MoreWhen(
+        part.at,
+        part.exc,
+        part.variable,
+        body,
+        boxed_whens(alloc, rest)?,
+    ))
 }
 
 /// Whether a mark with which a statement begins is next.
@@ -379,7 +385,10 @@ impl Reader {
         let (body, rest) = self.body(r, rest)?;
         let (others, rest) = self.elses(r, rest)?;
         let body = boxed_body(self.alloc, body)?;
-        Ok((Stmt::If(at, test.tree, body, boxed_else(self.alloc, others)?), rest))
+        Ok((
+            Stmt::If(at, test.tree, body, boxed_else(self.alloc, others)?),
+            rest,
+        ))
     }
 
     /// What follows the statements after a `then`.
@@ -428,7 +437,14 @@ impl Reader {
         let (test, rest) = self.expr(Level::Expr, r, rest)?;
         let (_, rest) = word(rest, Reserved::KeyThen)?;
         let (body, rest) = self.body(r, rest)?;
-        Ok((ElseifRead { at, test: test.tree, body }, rest))
+        Ok((
+            ElseifRead {
+                at,
+                test: test.tree,
+                body,
+            },
+            rest,
+        ))
     }
 
     /// `while`, where there is room.
@@ -445,7 +461,10 @@ impl Reader {
         let (_, rest) = word(rest, Reserved::KeyDo)?;
         let (body, rest) = self.body(r, rest)?;
         let (_, rest) = word(rest, Reserved::KeyEnd)?;
-        Ok((Stmt::While(at, test.tree, boxed_body(self.alloc, body)?), rest))
+        Ok((
+            Stmt::While(at, test.tree, boxed_body(self.alloc, body)?),
+            rest,
+        ))
     }
 
     /// `for`, where there is room.
@@ -464,7 +483,10 @@ impl Reader {
         let (_, rest) = word(rest, Reserved::KeyDo)?;
         let (body, rest) = self.body(r, rest)?;
         let (_, rest) = word(rest, Reserved::KeyEnd)?;
-        Ok((Stmt::For(at, of, calls.tree, boxed_body(self.alloc, body)?), rest))
+        Ok((
+            Stmt::For(at, of, calls.tree, boxed_body(self.alloc, body)?),
+            rest,
+        ))
     }
 
     /// `begin`
@@ -480,7 +502,10 @@ impl Reader {
         let (others, rest) = self.whens(r, rest)?;
         let body = boxed_body(self.alloc, body)?;
         let handlers = more_when(self.alloc, first, others)?;
-        Ok((Stmt::Begin(at, body, boxed_whens(self.alloc, handlers)?), rest))
+        Ok((
+            Stmt::Begin(at, body, boxed_whens(self.alloc, handlers)?),
+            rest,
+        ))
     }
 
     /// Further handlers and the `end`.
@@ -513,7 +538,15 @@ impl Reader {
         let (variable, rest) = self.variable(r, rest)?;
         let (_, rest) = word(rest, Reserved::KeyDo)?;
         let (body, rest) = self.body(r, rest)?;
-        Ok((WhenRead { at, exc, variable, body }, rest))
+        Ok((
+            WhenRead {
+                at,
+                exc,
+                variable,
+                body,
+            },
+            rest,
+        ))
     }
 }
 

@@ -74,15 +74,33 @@ impl Reader {
     {
         if at_word(tokens, Reserved::KeyInt) {
             let (at, rest) = word(tokens, Reserved::KeyInt)?;
-            return Ok((ReadType { tree: TypeTree::Int(at), height: 1 }, rest));
+            return Ok((
+                ReadType {
+                    tree: TypeTree::Int(at),
+                    height: 1,
+                },
+                rest,
+            ));
         }
         if at_word(tokens, Reserved::KeyBool) {
             let (at, rest) = word(tokens, Reserved::KeyBool)?;
-            return Ok((ReadType { tree: TypeTree::Bool(at), height: 1 }, rest));
+            return Ok((
+                ReadType {
+                    tree: TypeTree::Bool(at),
+                    height: 1,
+                },
+                rest,
+            ));
         }
         if at_word(tokens, Reserved::KeyString) {
             let (at, rest) = word(tokens, Reserved::KeyString)?;
-            return Ok((ReadType { tree: TypeTree::Text(at), height: 1 }, rest));
+            return Ok((
+                ReadType {
+                    tree: TypeTree::Text(at),
+                    height: 1,
+                },
+                rest,
+            ));
         }
         if at_word(tokens, Reserved::KeyArray) {
             if r == 0 {
@@ -92,7 +110,13 @@ impl Reader {
         }
         let (named, rest) = self.named_within(r, tokens)?;
         let NamedTree { item, args } = named.tree;
-        Ok((ReadType { tree: TypeTree::Named(item, args), height: named.height + 1 }, rest))
+        Ok((
+            ReadType {
+                tree: TypeTree::Named(item, args),
+                height: named.height + 1,
+            },
+            rest,
+        ))
     }
 
     /// `array` and what follows.
@@ -110,7 +134,13 @@ impl Reader {
         let Ok(tree) = Box::new(self.alloc, of.tree) else {
             return Err(Stop::Memory);
         };
-        Ok((ReadType { tree: TypeTree::Array(at, tree), height: of.height + 1 }, rest))
+        Ok((
+            ReadType {
+                tree: TypeTree::Array(at, tree),
+                height: of.height + 1,
+            },
+            rest,
+        ))
     }
 
     /// A named type up to the height `room`.
@@ -139,7 +169,13 @@ impl Reader {
         let Ok(trees) = Box::new(self.alloc, args.trees) else {
             return Err(Stop::Memory);
         };
-        Ok((ReadNamed { tree: NamedTree { item, args: trees }, height: args.height }, rest))
+        Ok((
+            ReadNamed {
+                tree: NamedTree { item, args: trees },
+                height: args.height,
+            },
+            rest,
+        ))
     }
 
     /// Types in brackets, or nothing.
@@ -151,7 +187,13 @@ impl Reader {
         ensures low { IfOk result (λ x. x.0.height ≤ r) }
     {
         if !at_symbol(tokens, Sym::OpenSquare) {
-            return Ok((ReadTypes { trees: TypeList::NoType, height: 0 }, tokens));
+            return Ok((
+                ReadTypes {
+                    trees: TypeList::NoType,
+                    height: 0,
+                },
+                tokens,
+            ));
         }
         if r == 0 {
             return Err(Stop::Wrong(tokens));
@@ -178,7 +220,13 @@ impl Reader {
             height = larger(height, one.height);
             back = more_first(self, one.tree, back)?;
             if !at_symbol(after, Sym::Comma) {
-                return Ok((ReadTypes { trees: back.turned(TypeList::NoType), height }, after));
+                return Ok((
+                    ReadTypes {
+                        trees: back.turned(TypeList::NoType),
+                        height,
+                    },
+                    after,
+                ));
             }
             let (_, next) = symbol(after, Sym::Comma)?;
             rest = next;
@@ -186,6 +234,12 @@ impl Reader {
         let (one, after) = self.type_tree(r, rest)?;
         let height = larger(height, one.height);
         let back = more_first(self, one.tree, back)?;
-        Ok((ReadTypes { trees: back.turned(TypeList::NoType), height }, after))
+        Ok((
+            ReadTypes {
+                trees: back.turned(TypeList::NoType),
+                height,
+            },
+            after,
+        ))
     }
 }

@@ -70,7 +70,7 @@ decreases-unary l = (l.r + 1) * 100 + 60
 abbrev pub invariant-chained-loop : goal.invariant-chained-loop
 invariant-chained-loop l =
     (chain l.r (read_form l.r) (form_named l.level) (form_named l.next) (read_of l.fn.left) l.self.most l.fn.tokens
-      ≡ steps (λ o. has (lookup (operator_of (form_named l.level)) o)) (goes_on l.r) (operand_of l.r (read_form l.r) (form_named l.level) (form_named l.next)) (suc l.r - l.counter) (read_of l.left) l.self.most l.rest)
+    ≡ steps (λ o. has (lookup (operator_of (form_named l.level)) o)) (goes_on l.r) (operand_of l.r (read_form l.r) (form_named l.level) (form_named l.next)) (suc l.r - l.counter) (read_of l.left) l.self.most l.rest)
     × (l.left.height ≤ l.r + 1)
 
 abbrev pub invariant-postfix-loop : goal.invariant-postfix-loop

@@ -53,9 +53,9 @@ invariant-stmts-loop l =
 abbrev pub invariant-elses-loop : goal.invariant-elses-loop
 invariant-elses-loop l =
     elses_of l.r (read_body l.r) l.self.most l.fn.tokens
-      ≡ with_back elses_onto (else_tree_of l.back) (many (in_set (code (Word KeyElseif) ∷ [])) (elseif_of l.r (read_body l.r)) more_elses (else_of l.r (read_body l.r)) (l.self.most - l.counter) l.self.most l.rest)
+    ≡ with_back elses_onto (else_tree_of l.back) (many (in_set (code (Word KeyElseif) ∷ [])) (elseif_of l.r (read_body l.r)) more_elses (else_of l.r (read_body l.r)) (l.self.most - l.counter) l.self.most l.rest)
 
 abbrev pub invariant-whens-loop : goal.invariant-whens-loop
 invariant-whens-loop l =
     whens_of l.r (read_body l.r) l.self.most l.fn.tokens
-      ≡ with_back whens_onto (handlers_of l.back) (many (in_set (code (Word KeyWhen) ∷ [])) (when_of l.r (read_body l.r)) more_handlers whens_end (l.self.most - l.counter) l.self.most l.rest)
+    ≡ with_back whens_onto (handlers_of l.back) (many (in_set (code (Word KeyWhen) ∷ [])) (when_of l.r (read_body l.r)) more_handlers whens_end (l.self.most - l.counter) l.self.most l.rest)

@@ -18,12 +18,12 @@ pub types-returns-in_err-one-clause-gives : goal.types-returns-in_err-one-clause
 types-returns-in_err-one-clause-gives t c =
     let p = err_from_is_err_and c.from_residual.result c.from_residual.ensures.1 in
     rw (p.1, p.2) (bad_item (Symbol Comma) (read_type c.args.r) more_types no_type types_onto (λ b a. more_types a b) (λ a b done. refl) (c.args.self.most - c.loop.counter) c.args.self.most (types_of c.loop.back) c.loop.rest.now
-      (type_list c.args.r c.args.self.most c.args.tokens.now) c.in_err-one.field-0.0 c.in_err-one.ensures.gives c.loop.invariant.0)
+    (type_list c.args.r c.args.self.most c.args.tokens.now) c.in_err-one.field-0.0 c.in_err-one.ensures.gives c.loop.invariant.0)
 
 pub types-returns-then-not-at_symbol-clause-gives : goal.types-returns-then-not-at_symbol-clause-gives
 types-returns-then-not-at_symbol-clause-gives t c =
     let all = last_item (Symbol Comma) (read_type c.args.r) more_types no_type types_onto (λ b a. more_types a b) (λ a b done. refl) c.args.self.most c.loop.counter c.args.self.most (types_of c.loop.back) (type_of c.in_ok-one.one.tree) c.loop.rest.now c.in_ok-one.after.now
-      (type_list c.args.r c.args.self.most c.args.tokens.now) c.loop-test.true c.in_ok-one.ensures.gives c.if-not-at_symbol.ensures c.loop.invariant.0 in
+    (type_list c.args.r c.args.self.most c.args.tokens.now) c.loop-test.true c.in_ok-one.ensures.gives c.if-not-at_symbol.ensures c.loop.invariant.0 in
     rw (c.turned.ensures, c.in_ok-back.ensures) all
 
 pub types-returns-then-not-at_symbol-clause-height : goal.types-returns-then-not-at_symbol-clause-height
@@ -34,10 +34,11 @@ types-returns-then-not-at_symbol-clause-height t c =
 pub types-loop-preserved : goal.types-loop-preserved
 types-loop-preserved t c =
     let turn = one_item (Symbol Comma) (read_type c.args.r) more_types no_type types_onto (λ b a. more_types a b) (λ a b done. refl) c.args.self.most c.loop.counter c.args.self.most c.in_ok-next.field-0-0 (types_of c.loop.back) (type_of c.in_ok-one.one.tree) c.loop.rest.now
-      c.in_ok-one.after.now c.in_ok-next.next.now (type_list c.args.r c.args.self.most c.args.tokens.now) c.loop-test.true c.in_ok-one.ensures.gives c.if-not-at_symbol.ensures c.in_ok-next.ensures c.loop.invariant.0 in
-    (rw c.in_ok-back.ensures turn,
-    grown_height c.loop.height c.in_ok-one.one.height c.larger-height.result (type_of c.in_ok-one.one.tree) (types_of c.loop.back) (types_of c.in_ok-back.back) c.larger-height.ensures c.loop.invariant.1 c.in_ok-one.ensures.height c.in_ok-back.ensures,
-    omega (arith, c.larger-height.ensures, c.in_ok-one.ensures.low, c.loop.invariant.2))
+    c.in_ok-one.after.now c.in_ok-next.next.now (type_list c.args.r c.args.self.most c.args.tokens.now) c.loop-test.true c.in_ok-one.ensures.gives c.if-not-at_symbol.ensures c.in_ok-next.ensures c.loop.invariant.0 in (
+      rw c.in_ok-back.ensures turn,
+      grown_height c.loop.height c.in_ok-one.one.height c.larger-height.result (type_of c.in_ok-one.one.tree) (types_of c.loop.back) (types_of c.in_ok-back.back) c.larger-height.ensures c.loop.invariant.1 c.in_ok-one.ensures.height c.in_ok-back.ensures,
+      omega (arith, c.larger-height.ensures, c.in_ok-one.ensures.low, c.loop.invariant.2),
+    )
 
 pub types-returns-clause-height : goal.types-returns-clause-height
 types-returns-clause-height t c =
