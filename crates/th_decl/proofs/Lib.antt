@@ -1,3 +1,0 @@
-pub mod DeclLaws
-pub mod VecLoops
-pub mod Whole
