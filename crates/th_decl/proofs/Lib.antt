@@ -1,0 +1,3 @@
+pub mod DeclLaws
+pub mod VecLoops
+pub mod Whole

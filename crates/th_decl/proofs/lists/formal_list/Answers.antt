@@ -1,0 +1,27 @@
+use Rattle.std.proofs.Common.{◌≡◌, ◌-◌, [], ◌∷◌, map}
+use Rattle.std.proofs.lemmas.Result.{err_from_is_err_and}
+use Rattle.th_tree.specs.declared.tokens.Reserved.TheVariants.{KeyHidden, KeyIter, KeyField, KeyException, KeyType, KeyClass, KeyRoutine}
+use Rattle.th_tree.specs.declared.tokens.Sym.TheVariants.{Comma}
+use Rattle.th_tree.specs.declared.lexeme.Mark.TheVariants.{Word, Symbol}
+use Rattle.th_tree.specs.View.{formal_of, named_of}
+use Rattle.th_tree.specs.DeclView.{sig_of, clause_of, field_assign_of, method_of, interface_item_of, module_item_of}
+use Rattle.th_parse.specs.Read.{code, in_set}
+use Rattle.th_parse.specs.Parse.{read_name, read_ref, read_named, read_formal}
+use Rattle.th_decl.specs.Parse.{listed, clause, hidden_sig, hidden_sigs, field_assign, field_assigns, method, methods, field, fields, ended_sig, ended_sigs, interface_item, interface_items, module_item, module_items}
+use Rattle.th_decl.proofs.VecLoops.{map_push, vec_item, vec_last, vec_bad, vec_more, vec_stop, vec_wrong}
+use Rattle.th_decl.proofs.lists.formal_list.Goals as goal
+
+pub returns-in_err-one : goal.returns-in_err-one
+returns-in_err-one c =
+    let p = err_from_is_err_and c.from_residual.result c.from_residual.ensures.1 in
+    rw (p.1, p.2) (vec_bad (read_formal c.args.room) (c.args.reader.most - c.loop.counter) c.args.reader.most (map formal_of c.loop.found.items) c.loop.rest.now (listed (Symbol Comma) (read_formal c.args.room) c.args.reader.most c.args.tokens.now) c.in_err-one.field-0.0 c.in_err-one.ensures c.loop.invariant)
+
+pub returns-then-not-at_symbol : goal.returns-then-not-at_symbol
+returns-then-not-at_symbol c =
+    vec_last (read_formal c.args.room) c.args.reader.most c.loop.counter c.args.reader.most (map formal_of c.loop.found.items) (map formal_of c.pushed.new.list.items) (formal_of c.in_ok-one.one) c.loop.rest.now c.in_ok-one.after.now (listed (Symbol Comma) (read_formal c.args.room) c.args.reader.most c.args.tokens.now)
+    (map_push formal_of c.loop.found.items c.pushed.new.list.items c.in_ok-one.one c.in_ok-pushed.ensures) c.loop-test.true c.in_ok-one.ensures c.if-not-at_symbol.ensures c.loop.invariant
+
+pub loop-preserved : goal.loop-preserved
+loop-preserved c =
+    vec_item (read_formal c.args.room) c.args.reader.most c.loop.counter c.args.reader.most c.in_ok-next.field-0-0 (map formal_of c.loop.found.items) (map formal_of c.pushed.new.list.items) (formal_of c.in_ok-one.one) c.loop.rest.now c.in_ok-one.after.now c.in_ok-next.next.now (listed (Symbol Comma) (read_formal c.args.room) c.args.reader.most c.args.tokens.now)
+    (map_push formal_of c.loop.found.items c.pushed.new.list.items c.in_ok-one.one c.in_ok-pushed.ensures) c.loop-test.true c.in_ok-one.ensures c.if-not-at_symbol.ensures c.in_ok-next.ensures c.loop.invariant
