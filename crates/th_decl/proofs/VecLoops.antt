@@ -4,11 +4,11 @@ use Rattle.th_tree.specs.declared.tokens.Sym.TheVariants.{Comma}
 use Rattle.th_tree.specs.declared.lexeme.Mark.{Mark}
 use Rattle.th_tree.specs.declared.lexeme.Mark.TheVariants.{Symbol}
 use Rattle.th_tree.specs.declared.lexeme.Lexeme.{Lexeme}
-use Rattle.th_parse.specs.declared.step.Stop.{Stop}
-use Rattle.th_parse.specs.Read.{Res, Got, P, peek, is_mark, mark, listed, many, ret}
-use Rattle.th_parse.specs.Gives.{Fails}
-use Rattle.th_parse.specs.Parts.{with_back}
-use Rattle.th_parse.proofs.Loops.{one_item, last_item, end_item, bad_item, one_more, no_more, all_more, bad_more}
+use Rattle.th_syntax.specs.declared.step.Stop.{Stop}
+use Rattle.th_syntax.specs.Read.{Res, Got, P, peek, is_mark, mark, listed, many, ret}
+use Rattle.th_syntax.specs.Gives.{Fails}
+use Rattle.th_syntax.specs.Lists.{with_back}
+use Rattle.th_syntax.proofs.Loops.{one_item, last_item, end_item, bad_item, one_more, no_more, all_more, bad_more}
 
 pub map_push : {T A : Type 0} (view : T → A) (old new : List T) (one : T) → new ≡ old ++ one ∷ [] → map view new ≡ map view old ++ view one ∷ []
 map_push {T = T} view old new one e = ap (λ l. map view l) e ∙ go old where

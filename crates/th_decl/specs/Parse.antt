@@ -8,8 +8,9 @@ use Rattle.th_tree.specs.declared.tree.Ident.{Ident}
 use Rattle.th_tree.specs.declared.tree.RefTree.{RefTree}
 use Rattle.th_tree.specs.Trees.{TypeSyn, TypeSyns, no_type, more_types, NamedSyn, FormalSyn, BodySyn, SigSyn, ClauseSyn, RoutineHeadSyn, RoutineSyn, ClassHeadSyn, InitHeadSyn, InterfaceClassSyn, SuperCallSyn, FieldAssignSyn, InitSyn, MethodSyn, ClassSyn, TypeDeclSyn, ExceptionSyn, InterfaceItemSyn, exception_item, type_item, class_item, routine_item, InterfaceSyn, ModuleItemSyn, module_class, module_routine, ModuleSyn}
 use Rattle.th_tree.specs.Grammar.{Expr, Founds}
-use Rattle.th_parse.specs.Read.{P, code, seq, ret, one, after, between, either, maybe, list_of, any_of}
-use Rattle.th_parse.specs.Parse.{read_name, read_ref, read_type, read_named, read_form, read_formal, read_body, args_of}
+use Rattle.th_syntax.specs.Read.{P, code, seq, ret, one, after, between, either, maybe, list_of, any_of}
+use Rattle.th_syntax.specs.Parse.{read_name, read_ref, read_type, read_named, read_form, read_formal, args_of}
+use Rattle.th_parse.specs.Parse.{read_body}
 
 -- words with the mark between them
 abbrev pub listed : {A : Type 0} → Mark → (ℕ → P A) → ℕ → P (List A)

@@ -2,11 +2,11 @@
 ghost use Rattle.std.specs.Prelude.{◌≡◌, ◌<◌, map};
 ghost use Rattle.th_tree.specs.View.{type_of, types_of, formal_of, option_of, named_of};
 ghost use Rattle.th_tree.specs.DeclView.{sig_of, clause_of, routine_head_of, class_head_of, init_head_of};
-ghost use Rattle.th_parse.specs.Gives.{Gives};
+ghost use Rattle.th_syntax.specs.Gives.{Gives};
 ghost use Rattle.th_decl.specs.Parse.{uses, params, signals, formals, in_parens, returns, yields, iter_sig, plain_sig, sig, type_formals, clause, clauses, iter_head, routine_head, head, inherits, class_head, init_head, hidden_sig, supertypes, ended_sig};
 
 use crate::lists::{clause_list, formal_list, named_list, names, references};
-use th_parse::{Reader, Step, at_symbol, at_word, name, symbol, word};
+use th_syntax::{Reader, Step, at_symbol, at_word, name, symbol, word};
 use th_tree::{
     ClassHead, ClauseTree, Formal, Ident, InitHead, Lexeme, NamedTree, RefTree, Reserved,
     RoutineHead, SigTree, Sym, TypeList, TypeTree,

@@ -2,14 +2,15 @@
 ghost use Rattle.std.specs.Prelude.{◌≡◌, ◌<◌};
 ghost use Rattle.th_tree.specs.View.{type_of, formal_of, option_of};
 ghost use Rattle.th_tree.specs.DeclView.{routine_of, interface_class_of, super_call_of, field_assign_of, init_of, method_of, class_of, type_decl_of, exception_of, interface_item_of, interface_of, module_item_of, module_of};
-ghost use Rattle.th_parse.specs.Gives.{Gives};
+ghost use Rattle.th_syntax.specs.Gives.{Gives};
 ghost use Rattle.th_decl.specs.Parse.{argument, interface_class, super_call, super_part, field_assign, init, hidden_method, method, field, class, type_decl, exception, interface_item, interface, routine, module_item, implements, whole_module};
 
 use crate::heads::{class_head, head, in_parens, init_head, params, sig, supertypes, uses};
 use crate::lists::{
     ended_sigs, field_assigns, fields, hidden_sigs, interface_items, methods, module_items,
 };
-use th_parse::{Level, Reader, Step, at_symbol, at_word, name, symbol, word};
+use th_parse::body_tree;
+use th_syntax::{Level, Reader, Step, at_symbol, at_word, name, symbol, word};
 use th_tree::{
     ClassDecl, ExceptionDecl, FieldAssign, Formal, Ident, InitTree, Interface, InterfaceClass,
     InterfaceItem, Lexeme, MethodTree, Module, ModuleItem, Reserved, Routine, SuperCall, Sym,
@@ -104,7 +105,7 @@ pub fn method<'a>(reader: Reader, room: u32, tokens: &'a [Lexeme]) -> Step<'a, M
         return hidden_method(reader, room, tokens);
     }
     let (sig, rest) = sig(reader, room, tokens)?;
-    let (body, rest) = reader.body(room, rest)?;
+    let (body, rest) = body_tree(reader, room, rest)?;
     let (_, rest) = word(rest, Reserved::KeyEnd)?;
     Ok((
         MethodTree {
@@ -124,7 +125,7 @@ fn hidden_method<'a>(reader: Reader, room: u32, tokens: &'a [Lexeme]) -> Step<'a
 {
     let (at, rest) = word(tokens, Reserved::KeyHidden)?;
     let (sig, rest) = sig(reader, room, rest)?;
-    let (body, rest) = reader.body(room, rest)?;
+    let (body, rest) = body_tree(reader, room, rest)?;
     let (_, rest) = word(rest, Reserved::KeyEnd)?;
     Ok((
         MethodTree {
@@ -271,7 +272,7 @@ fn routine<'a>(reader: Reader, room: u32, tokens: &'a [Lexeme]) -> Step<'a, Rout
     ensures { Gives (λ x. routine_of x.0) (λ x. x.1.now) result (routine room reader.most tokens.now) }
 {
     let (head, rest) = head(reader, room, tokens)?;
-    let (body, rest) = reader.body(room, rest)?;
+    let (body, rest) = body_tree(reader, room, rest)?;
     let (_, rest) = word(rest, Reserved::KeyEnd)?;
     Ok((Routine { head, body }, rest))
 }

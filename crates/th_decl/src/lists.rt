@@ -5,15 +5,15 @@ ghost use Rattle.th_tree.specs.declared.lexeme.Mark.TheVariants.{Symbol, Word};
 ghost use Rattle.th_tree.specs.declared.tokens.Reserved.TheVariants.{KeyHidden, KeyIter, KeyClass, KeyRoutine, KeyException, KeyType};
 ghost use Rattle.th_tree.specs.View.{formal_of, named_of};
 ghost use Rattle.th_tree.specs.DeclView.{sig_of, clause_of, field_assign_of, method_of, interface_item_of, module_item_of};
-ghost use Rattle.th_parse.specs.declared.step.Stop.TheVariants.{Memory};
-ghost use Rattle.th_parse.specs.Read.{peek, in_set, code};
-ghost use Rattle.th_parse.specs.Gives.{Gives};
-ghost use Rattle.th_parse.specs.Parse.{read_name, read_ref, read_named, read_formal};
+ghost use Rattle.th_syntax.specs.declared.step.Stop.TheVariants.{Memory};
+ghost use Rattle.th_syntax.specs.Read.{peek, in_set, code};
+ghost use Rattle.th_syntax.specs.Gives.{Gives};
+ghost use Rattle.th_syntax.specs.Parse.{read_name, read_ref, read_named, read_formal};
 ghost use Rattle.th_decl.specs.Parse.{listed, clause, hidden_sigs, field_assigns, methods, fields, ended_sigs, interface_items, module_items};
 
 use crate::heads::{clause, ended_sig, hidden_sig};
 use crate::items::{field, field_assign, interface_item, method, module_item};
-use th_parse::{Reader, Step, Stop, at_symbol, at_word, name, reference, symbol};
+use th_syntax::{Reader, Step, Stop, at_symbol, at_word, name, reference, symbol};
 use th_tree::{
     ClauseTree, FieldAssign, Formal, Ident, InterfaceItem, Lexeme, Mark, MethodTree, ModuleItem,
     NamedTree, RefTree, Reserved, SigTree, Sym,

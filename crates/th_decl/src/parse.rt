@@ -4,13 +4,14 @@ ghost use Rattle.th_tree.specs.DeclView.{interface_of, module_of};
 ghost use Rattle.th_tree.specs.Grammar.{height_limit};
 ghost use Rattle.th_tree.specs.Declarations.{Interface as AnInterface, Module as AModule, WholeInterface, WholeModule};
 ghost use Rattle.th_tree.specs.Numbered.{lexemes_of, with_tokens};
-ghost use Rattle.th_parse.specs.Grown.{Grown};
+ghost use Rattle.th_syntax.specs.Grown.{Grown};
 ghost use Rattle.th_parse.specs.Answer.{UnlessMemory};
 ghost use Rattle.th_decl.specs.Answer.{IsTextAnswer, OneText};
 
 use crate::items::{interface_tree, module_tree};
 use std::alloc::Global;
-use th_parse::{HEIGHT_LIMIT, ParseError, Reader, Stop, lexemes, place_of};
+use th_parse::{HEIGHT_LIMIT, ParseError, place_of};
+use th_syntax::{Reader, Stop, lexemes};
 use th_tree::{Interface, Module, NameTable, Tokens};
 
 /// The module with the height limit `room`.

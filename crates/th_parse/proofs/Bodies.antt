@@ -12,16 +12,16 @@ use Rattle.std.proofs.lemmas.List.{length-drop}
 use Rattle.th_tree.specs.declared.tokens.Token.{Token}
 use Rattle.th_tree.specs.Numbered.{lexemes_of}
 use Rattle.th_tree.specs.Verdict.{FirstWrong}
-use Rattle.th_parse.specs.Read.{Res, Got, Bad, P, bind, peek, member, in_set, many, ret}
+use Rattle.th_syntax.specs.Read.{Res, Got, Bad, P, bind, peek, member, in_set, many, ret}
 use Rattle.th_parse.specs.Parse.{read_body, stmts_of, stmt_of, stmt_first}
 use Rattle.th_parse.specs.Answer.{statement_next, BodyFront, OneTree}
-use Rattle.th_parse.proofs.Good.{Good, goods, bads}
-use Rattle.th_parse.proofs.Law.{Law}
-use Rattle.th_parse.proofs.Repeat.{one_long}
-use Rattle.th_parse.proofs.Tables.{lexemes_length}
-use Rattle.th_parse.proofs.Exact.{unique, front_of, refused}
-use Rattle.th_parse.proofs.TypeLaws.{law_type, law_named, none_type, none_named}
-use Rattle.th_parse.proofs.ExprLaws.{law_form, none_form, form_more}
+use Rattle.th_syntax.proofs.Good.{Good, goods, bads}
+use Rattle.th_syntax.proofs.Law.{Law}
+use Rattle.th_syntax.proofs.Repeat.{one_long}
+use Rattle.th_syntax.proofs.Tables.{lexemes_length}
+use Rattle.th_syntax.proofs.Exact.{unique, front_of, refused}
+use Rattle.th_syntax.proofs.TypeLaws.{law_type, law_named, none_type, none_named}
+use Rattle.th_syntax.proofs.ExprLaws.{law_form, none_form, form_more}
 use Rattle.th_parse.proofs.StmtLaws.{law_body, law_stmt_of}
 
 starts_same : (o : Option Mark) → in_set stmt_first o ≡ begins_statement o

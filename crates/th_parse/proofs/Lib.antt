@@ -1,16 +1,3 @@
-pub mod Good
-pub mod Steady
-pub mod Sets
-pub mod Marks
-pub mod Law
-pub mod Choice
-pub mod Repeat
-pub mod Words
-pub mod TypeLaws
-pub mod ExprLaws
 pub mod StmtLaws
-pub mod Loops
 pub mod Rooms
-pub mod Exact
-pub mod Tables
 pub mod Bodies

@@ -1,64 +1,7 @@
--- Readings where there is room, and heights of lists.
-use Rattle.std.proofs.Common.{◌≡◌, ◌≢◌, ℕ, zero, suc, max, ◌≤◌, ◌<◌, ◌+◌, ◌-◌, List, refl, sym, ◌∙◌, ap, arith}
+-- Statements where there is room.
+use Rattle.std.proofs.Common.{◌≡◌, ◌≢◌, ℕ, zero, suc, ◌-◌, List, refl, arith}
 use Rattle.th_tree.specs.declared.lexeme.Lexeme.{Lexeme}
-use Rattle.th_tree.specs.Trees.{TypeSyn, TypeSyns, no_type, more_types, type_height, types_height, ExprSyns, no_expr, more_exprs}
-use Rattle.th_tree.specs.Onto.{types_onto, exprs_onto}
-use Rattle.th_tree.specs.Grammar.{Form, Found, Founds, no_founds, more_founds}
-use Rattle.th_parse.specs.Read.{Res, P}
-use Rattle.th_parse.specs.Parse.{read_type, type_of, read_named, named_type_of, read_form, form_of, read_body, stmts_of}
-
-pub type_room : (room n : ℕ) (ts : List Lexeme) → room ≢ 0 → read_type room n ts ≡ type_of (room - 1) (read_type (room - 1)) n ts
-type_room zero n ts h = absurd (h refl)
-type_room (suc r) n ts h = let e : suc r - 1 ≡ r = omega arith in rw e refl
-
-pub named_room : (room n : ℕ) (ts : List Lexeme) → room ≢ 0 → read_named room n ts ≡ named_type_of (room - 1) (read_type (room - 1)) n ts
-named_room zero n ts h = absurd (h refl)
-named_room (suc r) n ts h = let e : suc r - 1 ≡ r = omega arith in rw e refl
-
-pub form_room : (room : ℕ) (F : Form) (n : ℕ) (ts : List Lexeme) → room ≢ 0 → read_form room F n ts ≡ form_of (room - 1) (read_form (room - 1)) F n ts
-form_room zero F n ts h = absurd (h refl)
-form_room (suc r) F n ts h = let e : suc r - 1 ≡ r = omega arith in rw e refl
-
-pub onto_height : (a b : TypeSyns) → types_height (types_onto a b) ≡ max (types_height a) (types_height b)
-onto_height no_type b = let e : max 0 (types_height b) ≡ types_height b = omega arith in sym e
-onto_height (more_types t ts) b = onto_height ts (more_types t b) ∙ turn (type_height t) (types_height ts) (types_height b) where
-  turn : (x y z : ℕ) → max y (max x z) ≡ max (max x y) z
-  turn x y z = omega arith
-
--- the height of a list that was built back to front
-pub turned_height : (back done : TypeSyns) (k : ℕ) → done ≡ types_onto back no_type → k ≡ types_height back → k ≡ types_height done
-turned_height back done k e d =
-    let z : max (types_height back) 0 ≡ types_height back = omega arith in
-    d ∙ (sym z ∙ (sym (onto_height back no_type) ∙ ap types_height (sym e)))
-
--- the height of a list with one more
-pub grown_height : (h k l : ℕ) (t : TypeSyn) (ts all : TypeSyns) → l ≡ max h k → h ≡ types_height ts → k ≡ type_height t → all ≡ more_types t ts → l ≡ types_height all
-grown_height h k l t ts all e d i j =
-    let z : l ≡ max (type_height t) (types_height ts) = omega arith in
-    z ∙ ap types_height (sym j)
-
-abbrev pub founds : ExprSyns → ℕ → Founds
-founds es h = record { trees = es; height = h }
-
--- the first expressions the other way round, before the second
-abbrev pub founds_onto : Founds → Founds → Founds
-founds_onto a b = founds (exprs_onto a.trees b.trees) (max a.height b.height)
-
-pub founds_law : (a : Found) (b done : Founds) → founds_onto (more_founds a b) done ≡ founds_onto b (more_founds a done)
-founds_law a b done = ap (λ h. founds (exprs_onto b.trees (more_exprs a.tree done.trees)) h) (turn a.height b.height done.height) where
-  turn : (x y z : ℕ) → max (max x y) z ≡ max y (max x z)
-  turn x y z = omega arith
-
-pub founds_none : (b : Founds) → founds_onto no_founds b ≡ b
-founds_none b = ap (λ h. founds b.trees h) (zero_max b.height) where
-  zero_max : (x : ℕ) → max 0 x ≡ x
-  zero_max x = omega arith
-
-pub founds_grown : (a : Found) (es : ExprSyns) (h l : ℕ) → l ≡ max h a.height → more_founds a (founds es h) ≡ founds (more_exprs a.tree es) l
-founds_grown a es h l e = let z : max a.height h ≡ l = omega arith in ap (λ x. founds (more_exprs a.tree es) x) z
-
-pub founds_turned : (a : Found) (es : ExprSyns) (h l : ℕ) → l ≡ max h a.height → founds_onto (more_founds a (founds es h)) no_founds ≡ founds (exprs_onto (more_exprs a.tree es) no_expr) l
-founds_turned a es h l e = let z : max (max a.height h) 0 ≡ l = omega arith in ap (λ x. founds (exprs_onto (more_exprs a.tree es) no_expr) x) z
+use Rattle.th_parse.specs.Parse.{read_body, stmts_of}
 
 pub body_room : (room n : ℕ) (ts : List Lexeme) → room ≢ 0 → read_body room n ts ≡ stmts_of (room - 1) (read_body (room - 1)) n ts
 body_room zero n ts h = absurd (h refl)

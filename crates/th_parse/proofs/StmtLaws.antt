@@ -10,16 +10,17 @@ use Rattle.th_tree.specs.declared.tree.ExcTree.TheVariants.{Declared, Overflow, 
 use Rattle.th_tree.specs.Trees.{ExprSyn, FormalSyn, StmtSyn, var_stmt, assign_stmt, plain_stmt, if_stmt, while_stmt, for_stmt, break_stmt, return_stmt, return_value_stmt, yield_stmt, raise_stmt, raise_value_stmt, begin_stmt, put_byte_stmt, put_int_stmt, put_text_stmt, BodySyn, no_stmt, more_stmts, ElseSyn, no_else, else_do, WhenSyns, no_when}
 use Rattle.th_tree.specs.Forms.{Lang, Done, done, Then, Many, none_more, one_more, Maybe, Between}
 use Rattle.th_tree.specs.Grammar.{Form, Expr, Post, FormAt, FormalAt, Exc, ElseifPart, more_elses, WhenPart, more_handlers, VarStmt, PostStmt, Elseif, Else, IfStmt, WhileStmt, ForStmt, BreakStmt, ReturnStmt, YieldStmt, RaiseStmt, When, BeginStmt, PutStmt, AStmt, StmtAt, BodyAt}
-use Rattle.th_parse.specs.Read.{P, code}
-use Rattle.th_parse.specs.Parse.{read_form, read_formal, read_exc, var_of, post_stmt_of, elseif_of, else_of, elses_of, if_of, while_of, for_of, break_of, return_of, yield_of, raise_of, variable_of, when_of, whens_of, begin_of, put_of, stmt_of, atom_first, stmt_first, read_body}
-use Rattle.th_parse.proofs.Good.{good_map}
-use Rattle.th_parse.proofs.Marks.{Exact}
-use Rattle.th_parse.proofs.Law.{Law, law_weak, law_done, law_then, law_the}
-use Rattle.th_parse.proofs.Choice.{law_either, law_first_if, law_second_if}
-use Rattle.th_parse.proofs.Repeat.{law_many}
-use Rattle.th_parse.proofs.Words.{law_name, law_ref, law_after, law_place, law_between, none_next, none_then, none_between}
-use Rattle.th_parse.proofs.TypeLaws.{law_type, none_type, type_more}
-use Rattle.th_parse.proofs.ExprLaws.{law_form, none_form, form_more, post_more}
+use Rattle.th_syntax.specs.Read.{P, code}
+use Rattle.th_syntax.specs.Parse.{read_form, read_formal, atom_first}
+use Rattle.th_parse.specs.Parse.{read_exc, var_of, post_stmt_of, elseif_of, else_of, elses_of, if_of, while_of, for_of, break_of, return_of, yield_of, raise_of, variable_of, when_of, whens_of, begin_of, put_of, stmt_of, stmt_first, read_body}
+use Rattle.th_syntax.proofs.Good.{good_map}
+use Rattle.th_syntax.proofs.Marks.{Exact}
+use Rattle.th_syntax.proofs.Law.{Law, law_weak, law_done, law_then, law_the}
+use Rattle.th_syntax.proofs.Choice.{law_either, law_first_if, law_second_if}
+use Rattle.th_syntax.proofs.Repeat.{law_many}
+use Rattle.th_syntax.proofs.Words.{law_ref, law_after, law_place, law_between, none_next, none_then, none_between}
+use Rattle.th_syntax.proofs.TypeLaws.{law_formal, none_formal, type_more}
+use Rattle.th_syntax.proofs.ExprLaws.{law_form, none_form, form_more, post_more}
 
 -- one language in place of another with the same words
 pub law_same : {A : Type 0} {L K : A → List Lexeme → Type 0} {run : ℕ → P A} {f : List ℕ} {b : Bool} {m : List ℕ} → ((a : A) (xs : List Lexeme) → L a xs → K a xs) → ((a : A) (xs : List Lexeme) → K a xs → L a xs)
@@ -30,12 +31,6 @@ law_same {L = L} {K = K} {run = run} to from l = record {
   comes = λ n a xs rest h z o. l.comes n a xs rest (from a xs h) z o;
   heads = λ a xs h. l.heads a xs (from a xs h);
 }
-
-pub law_formal : (r : ℕ) → nat_lt 0 r ≡ true → Law (FormalAt r) (read_formal r) (0 ∷ []) false type_more
-law_formal r e = law_then law_name (λ i xs h. law_after (Symbol Colon) tt (law_then (law_type r e) (λ t ys j. law_done (record { name = i; of = t })) refl)) refl
-
-none_formal : (r : ℕ) → nat_lt 0 r ≡ false → (a : FormalSyn) (xs : List Lexeme) → FormalAt r a xs → ⊥
-none_formal r e = none_next (λ n. none_next (λ q. none_then (none_type r e)))
 
 abbrev pub exc_first : List ℕ
 exc_first = code (Word KeyOverflow) ∷ code (Word KeyZeroDivide) ∷ code (Word KeyBounds) ∷ code (Word KeyEndOfInput) ∷ 0 ∷ []

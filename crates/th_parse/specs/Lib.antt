@@ -1,8 +1,3 @@
-pub mod Read
 pub mod Parse
-pub mod Gives
-pub mod Lists
-pub mod Founds
 pub mod Parts
-pub mod Grown
 pub mod Answer

@@ -8,8 +8,8 @@ use Rattle.th_tree.specs.View.{expr_of, formal_of, body_of, option_of}
 use Rattle.th_tree.specs.Grammar.{ElseifPart, WhenPart, Expr}
 use Rattle.th_parse.specs.declared.stmts.ElseifRead.{ElseifRead}
 use Rattle.th_parse.specs.declared.stmts.WhenRead.{WhenRead}
-use Rattle.th_parse.specs.Read.{Res, Got, Bad, P, bind, seq, ret, one, after, between}
-use Rattle.th_parse.specs.Parse.{read_form}
+use Rattle.th_syntax.specs.Read.{Res, Got, Bad, P, bind, seq, ret, one, after, between}
+use Rattle.th_syntax.specs.Parse.{read_form}
 
 abbrev pub elseif_part : ElseifRead → ElseifPart
 elseif_part r = record { at = r.at; test = expr_of r.test; body = body_of r.body }
@@ -21,7 +21,3 @@ when_part r = record { at = r.at; exc = r.exc; variable = option_of formal_of r.
 abbrev pub put_read : ℕ → Reserved → ℕ → P (ℕ × ExprSyn)
 put_read r key n ts =
     if nat_lt 0 r then seq (one (Word key)) (λ p. seq (between (Symbol OpenParen) (Symbol CloseParen) (read_form r Expr)) (λ e. after (Symbol Semicolon) (ret (p, e.tree)))) n ts else Bad ts
-
--- what was read before, back to front, before what is read
-abbrev pub with_back : {B : Type 0} → (B → B → B) → B → Res B → Res B
-with_back onto b x = bind x (λ bs rest. Got (onto b bs) rest)

@@ -3,12 +3,12 @@ ghost use Rattle.std.specs.Prelude.{◌≡◌, ◌+◌, ◌<◌, ◌≤◌, ◌-
 ghost use Rattle.th_tree.specs.Grammar.{height_limit};
 ghost use Rattle.th_tree.specs.Numbered.{lexemes_of, with_tokens};
 ghost use Rattle.th_tree.specs.Verdict.{place};
-ghost use Rattle.th_parse.specs.Grown.{Grown};
+ghost use Rattle.th_syntax.specs.Grown.{Grown};
 ghost use Rattle.th_parse.specs.Answer.{IsBodyAnswer, UnlessMemory, OneTree};
 
-use crate::numbering::lexemes;
-use crate::step::{Reader, Stop};
+use crate::stmts::body_tree;
 use std::alloc::{AllocError, Global};
+use th_syntax::{Reader, Stop, lexemes};
 use th_tree::{Body, Lexeme, NameTable, Tokens};
 use thiserror::Error;
 
@@ -61,7 +61,7 @@ fn body_at(
         alloc,
         most: found.len(),
     };
-    match reader.body(room, &found) {
+    match body_tree(reader, room, &found) {
         Ok((body, rest)) => Ok((body, tokens.len() - rest.len())),
         Err(Stop::Wrong(rest)) => Err(ParseError::Syntax(place_of(
             rest,

@@ -1,0 +1,15 @@
+pub mod Good
+pub mod Steady
+pub mod Sets
+pub mod Marks
+pub mod Law
+pub mod Choice
+pub mod Repeat
+pub mod Words
+pub mod TypeLaws
+pub mod ExprLaws
+pub mod Loops
+pub mod Rooms
+pub mod Exact
+pub mod Tables
+pub mod Heads
