@@ -2,6 +2,8 @@
 #![tactic(auto)]
 
 mod body;
+mod parts;
+mod plain;
 mod stmts;
 
 pub use body::{HEIGHT_LIMIT, ParseError, parse_body, place_of};

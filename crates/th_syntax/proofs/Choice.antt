@@ -1,9 +1,9 @@
 -- A choice between two readings by the next mark.
-use Rattle.std.proofs.Common.{◌≡◌, ℕ, zero, suc, ◌≤◌, ◌<◌, ◌+◌, Bool, true, false, List, [], ◌∷◌, ◌++◌, length, Option, Some, None, ◌⊎◌, inl, inr, refl, sym, ◌∙◌, subst, ap, if◌then◌else◌, arith}
+use Rattle.std.proofs.Common.{◌≡◌, ℕ, ◌≤◌, Bool, true, false, List, [], ◌++◌, length, Option, refl, if◌then◌else◌}
 use Rattle.th_tree.specs.declared.lexeme.Mark.{Mark}
 use Rattle.th_tree.specs.declared.lexeme.Lexeme.{Lexeme}
 use Rattle.th_tree.specs.Forms.{Either, left, right}
-use Rattle.th_syntax.specs.Read.{Res, Got, Bad, P, peek, code, code_of, member, in_set, choose}
+use Rattle.th_syntax.specs.Read.{Got, Bad, P, peek, code_of, member, in_set, choose}
 use Rattle.th_syntax.proofs.Good.{Good, good_bad, good_map, good_if}
 use Rattle.th_syntax.proofs.Steady.{Steady, steady_bad, steady_look, steady_test}
 use Rattle.th_syntax.proofs.Sets.{disjoint, joined_if, out_left, out_right, Heads, heads_left, heads_right, begins, begins_not}

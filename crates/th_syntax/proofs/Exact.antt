@@ -1,9 +1,9 @@
 -- At most one tree, and the exact place of a refusal, of each reading that keeps the law.
-use Rattle.std.proofs.Common.{◌≡◌, ◌≢◌, ℕ, zero, suc, ◌≤◌, ◌<◌, ◌+◌, Bool, true, false, List, [], ◌∷◌, ◌++◌, length, Option, None, refl, sym, ◌∙◌, subst, ap, append-nil, append_assoc, length-append, le_refl, arith}
+use Rattle.std.proofs.Common.{◌≡◌, ◌≢◌, ℕ, ◌≤◌, Bool, false, List, [], ◌∷◌, ◌++◌, length, refl, sym, ◌∙◌, subst, append-nil, le_refl, arith}
 use Rattle.std.proofs.lemmas.List.{append_cancel_right}
 use Rattle.th_tree.specs.declared.lexeme.Lexeme.{Lexeme}
 use Rattle.th_tree.specs.Verdict.{FirstWrong}
-use Rattle.th_syntax.specs.Read.{Res, Got, Bad, P, peek, member, in_set}
+use Rattle.th_syntax.specs.Read.{Got, Bad, P, member}
 use Rattle.th_syntax.proofs.Good.{Good, goods, bads}
 use Rattle.th_syntax.proofs.Steady.{Steady, gots, stops}
 use Rattle.th_syntax.proofs.Law.{Law}

@@ -1,24 +1,23 @@
 -- Expressions are read exactly.
-use Rattle.std.proofs.Common.{◌≡◌, ℕ, zero, suc, max, ◌≤◌, ◌<◌, ◌+◌, Bool, true, false, nat_lt, nat_le, List, [], ◌∷◌, ◌++◌, Option, Some, None, refl, arith}
+use Rattle.std.proofs.Common.{◌≡◌, ℕ, zero, suc, max, ◌≤◌, ◌<◌, Bool, true, false, nat_lt, List, [], ◌∷◌, ◌++◌, Option, Some, None, refl, arith}
 use Rattle.std.proofs.lemmas.Bool.{ltb-false, lt-ltb, leb-true, leb-false}
 use Rattle.th_tree.specs.declared.tokens.Reserved.TheVariants.{KeyTrue, KeyFalse, KeySelf, KeySuper, KeyNew, KeyGetByte, KeyArray, KeyLength, KeyNot, KeyOr, KeyAnd}
 use Rattle.th_tree.specs.declared.tokens.Sym.TheVariants.{OpenParen, CloseParen, OpenSquare, CloseSquare, OpenBrace, CloseBrace, Comma, Dot, Dollar, Equal, NotEqual, Same, Less, LessEqual, Greater, GreaterEqual, Plus, Minus, Ampersand, Times, Divide, Remainder}
 use Rattle.th_tree.specs.declared.tree.BinaryOp.{BinaryOp}
 use Rattle.th_tree.specs.declared.tree.BinaryOp.TheVariants as ops
 use Rattle.th_tree.specs.declared.lexeme.Mark.{Mark}
-use Rattle.th_tree.specs.declared.lexeme.Mark.TheVariants.{Word, Number, Symbol, Text}
+use Rattle.th_tree.specs.declared.lexeme.Mark.TheVariants.{Word, Symbol}
 use Rattle.th_tree.specs.declared.lexeme.Lexeme.{Lexeme}
-use Rattle.th_tree.specs.declared.tree.RefTree.{RefTree}
-use Rattle.th_tree.specs.Trees.{TypeSyn, TypeSyns, no_type, more_types, type_height, types_height, NamedSyn, number_expr, text_expr, true_expr, false_expr, self_expr, super_expr, item_expr, call_expr, new_expr, new_array_expr, get_byte_expr, field_expr, method_expr, length_expr, element_expr, not_expr, negative_expr}
-use Rattle.th_tree.specs.Forms.{Lang, Done, done, The, Valued, valued as is_valued, OneOf, Then, in_turn, Either, left, right, Steps, no_step, a_step, Where, where_holds, After, Between}
-use Rattle.th_tree.specs.Grammar.{Form, Expr, Conj, Neg, Rel, Sum, Term, Unary, Post, Atom, operator_of, Found, found, Founds, no_founds, more_founds, joined, TypeAt, NamedAt, Args, Parens, Super, New, GetByte, Braces, Item, AnAtom, Member, Suffix, APost, Operand, Chain, AUnary, ATerm, ASum, ARel, ANeg, AConj, AnExpr, form_language, FormAt}
-use Rattle.th_syntax.specs.Read.{P, Got, Bad, bind, peek, code, in_set, choose, lookup, one_of_table, has, steps, seq, ret, one}
-use Rattle.th_syntax.specs.Parse.{read_type, read_named, args_inside, args_of, parens_of, super_of, new_array_of, new_object_of, new_of, get_byte_of, braces_of, item_end, item_of, atom_of, member_of, suffix_of, goes_on, suffixes, post_of, operand_of, chain, unary_of, term_of, sum_of, comparison, rel_of, neg_of, conj_of, expr_of, form_of, read_form, atom_first}
+use Rattle.th_tree.specs.Trees.{no_type, more_types, type_height, types_height, true_expr, false_expr, self_expr, super_expr, item_expr, call_expr, new_expr, new_array_expr, get_byte_expr, field_expr, method_expr, length_expr, element_expr, not_expr, negative_expr}
+use Rattle.th_tree.specs.Forms.{Lang, Done, done, Valued, valued as is_valued, Then, in_turn, Either, left, right, Steps, no_step, a_step, Where, where_holds, After, Between}
+use Rattle.th_tree.specs.Grammar.{Form, Expr, Conj, Neg, Rel, Sum, Term, Unary, Post, Atom, operator_of, Found, found, no_founds, more_founds, joined, TypeAt, NamedAt, Args, Parens, Super, New, GetByte, Braces, Item, AnAtom, Member, Suffix, APost, Operand, Chain, AUnary, ATerm, ASum, ARel, ANeg, AConj, AnExpr, form_language, FormAt}
+use Rattle.th_syntax.specs.Read.{P, code, in_set, lookup, has}
+use Rattle.th_syntax.specs.Parse.{args_of, parens_of, super_of, new_of, get_byte_of, braces_of, item_of, atom_of, member_of, suffix_of, goes_on, suffixes, post_of, operand_of, chain, unary_of, term_of, sum_of, comparison, rel_of, neg_of, conj_of, expr_of, form_of, read_form, atom_first}
 use Rattle.th_syntax.proofs.Sets.{disjoint}
 use Rattle.th_syntax.proofs.Law.{Law, law_weak, law_done, law_then, law_the, law_where, law_one_of}
 use Rattle.th_syntax.proofs.Choice.{law_choice, law_either, law_first_if, law_second_if}
 use Rattle.th_syntax.proofs.Repeat.{law_listed, law_steps}
-use Rattle.th_syntax.proofs.Words.{law_name, law_number, law_text, law_ref, law_after, law_place, law_between, none_next, none_then, none_between, none_listed, some_room}
+use Rattle.th_syntax.proofs.Words.{law_name, law_number, law_text, law_ref, law_after, law_place, law_between, none_next, none_then, none_between, none_listed}
 use Rattle.th_syntax.proofs.TypeLaws.{law_type, none_type, law_named, none_named}
 
 -- what holds of each value that a word has

@@ -1,9 +1,9 @@
 -- What is read is in the relation, and where reading stops at a wrong token, what was read before it begins something in it.
-use Rattle.std.proofs.Common.{◌≡◌, ℕ, zero, suc, ◌≤◌, Bool, true, false, List, [], ◌∷◌, ◌++◌, Option, Some, None, refl, sym, subst, ap, append_assoc, append-nil, if◌then◌else◌}
+use Rattle.std.proofs.Common.{◌≡◌, ℕ, Bool, true, false, List, [], ◌∷◌, ◌++◌, Option, Some, None, refl, sym, subst, append_assoc, if◌then◌else◌}
 use Rattle.th_tree.specs.declared.lexeme.Mark.{Mark}
 use Rattle.th_tree.specs.declared.lexeme.Lexeme.{Lexeme}
 use Rattle.th_tree.specs.Forms.{lex}
-use Rattle.th_syntax.specs.Read.{Res, Got, Bad, P, bind, peek, take_one, on_some}
+use Rattle.th_syntax.specs.Read.{Res, Got, Bad, P, bind, take_one, on_some}
 
 pub data Good {A : Type 0} (Is : A → List Lexeme → Type 0) (ts : List Lexeme) : Res A → Type 0 where
   goods : (a : A) (xs rest : List Lexeme) → ts ≡ xs ++ rest → Is a xs → Good Is ts (Got a rest)

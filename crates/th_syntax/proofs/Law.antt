@@ -1,13 +1,13 @@
 -- What a reading of a language owes, and that each way to put readings together keeps it.
-use Rattle.std.proofs.Common.{◌≡◌, ℕ, zero, suc, ◌≤◌, ◌<◌, ◌+◌, Bool, true, false, nat_eq, nat_le, List, [], ◌∷◌, ◌++◌, length, Option, Some, None, ◌⊎◌, inl, inr, refl, sym, ◌∙◌, subst, ap, append_assoc, append-nil, length-append, le_refl, if◌then◌else◌, arith}
+use Rattle.std.proofs.Common.{◌≡◌, ℕ, ◌≤◌, ◌+◌, Bool, true, false, List, [], ◌∷◌, ◌++◌, length, Option, Some, refl, sym, ◌∙◌, subst, ap, append_assoc, length-append, if◌then◌else◌, arith}
 use Rattle.std.proofs.lemmas.List.{append_cancel_right}
 use Rattle.th_tree.specs.declared.lexeme.Mark.{Mark}
 use Rattle.th_tree.specs.declared.lexeme.Lexeme.{Lexeme}
-use Rattle.th_tree.specs.Forms.{lex, Done, done, The, the, Valued, valued as is_valued, OneOf, one_of, Then, in_turn, Either, left, right, Many, none_more, one_more, Listed, last_one, one_before, Steps, no_step, a_step, Where, where_holds}
-use Rattle.th_syntax.specs.Read.{Res, Got, Bad, P, bind, peek, take_one, code, code_of, member, in_set, is_mark, on_some, mark, valued, lookup, one_of_table, many, listed, steps}
+use Rattle.th_tree.specs.Forms.{lex, Done, done, The, the, Valued, valued as is_valued, OneOf, one_of, Then, in_turn, Where, where_holds}
+use Rattle.th_syntax.specs.Read.{Res, Got, Bad, P, bind, peek, take_one, code, code_of, member, in_set, is_mark, mark, valued, lookup, one_of_table}
 use Rattle.th_syntax.proofs.Good.{Good, goods, bads, good_got, good_bad, good_map, good_bind, good_if, good_some, Headed, good_take}
-use Rattle.th_syntax.proofs.Steady.{Steady, gots, stops, steady_got, steady_bad, steady_weak, steady_none, steady_empty, Again, again_on, steady_bind, steady_one, steady_look, steady_test, steady_some}
-use Rattle.th_syntax.proofs.Sets.{disjoint, subset, joined_if, disjoint_out, subset_in, subset_out, member_left, member_right, out_left, out_right, Heads, both, heads_weak, heads_then, heads_left, heads_right, follows, begins, begins_not}
+use Rattle.th_syntax.proofs.Steady.{Steady, gots, stops, steady_got, steady_bad, Again, again_on, steady_one, steady_look, steady_test, steady_some}
+use Rattle.th_syntax.proofs.Sets.{disjoint, subset, joined_if, subset_out, out_left, out_right, Heads, both, heads_weak, heads_then, follows}
 use Rattle.th_syntax.proofs.Marks.{Exact, is_mark_same, tells}
 
 -- `run` reads the words of L, whatever bound n on lists it is given that is large enough. A word begins with one of the

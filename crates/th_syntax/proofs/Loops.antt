@@ -1,10 +1,10 @@
 -- The turns of the code's loops over lists.
-use Rattle.std.proofs.Common.{◌≡◌, ℕ, zero, suc, ◌<◌, ◌+◌, ◌-◌, Bool, true, false, Option, List, [], ◌∷◌, refl, sym, ◌∙◌, subst, ap, arith, if◌then◌else◌}
+use Rattle.std.proofs.Common.{◌≡◌, ℕ, zero, suc, ◌<◌, ◌+◌, ◌-◌, Bool, true, false, Option, List, [], ◌∷◌, refl, sym, ◌∙◌, subst, ap, arith}
 use Rattle.th_tree.specs.declared.lexeme.Mark.{Mark}
 use Rattle.th_tree.specs.declared.lexeme.Lexeme.{Lexeme}
 use Rattle.th_syntax.specs.declared.step.Stop.{Stop}
 use Rattle.th_syntax.specs.declared.step.Stop.TheVariants.{Memory, Wrong}
-use Rattle.th_syntax.specs.Read.{Res, Got, Bad, P, bind, peek, take_one, in_set, is_mark, mark, listed, many, steps}
+use Rattle.th_syntax.specs.Read.{Res, Got, Bad, P, bind, peek, take_one, is_mark, mark, listed, many, steps}
 use Rattle.th_syntax.specs.Gives.{Fails}
 use Rattle.th_syntax.specs.Lists.{with_back}
 

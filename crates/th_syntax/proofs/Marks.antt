@@ -1,5 +1,5 @@
 -- A mark's number tells the mark, of words and symbols.
-use Rattle.std.proofs.Common.{◌≡◌, ℕ, zero, suc, Bool, true, false, nat_eq, List, [], ◌∷◌, ◌++◌, Option, Some, None, refl, sym, ◌∙◌, subst, ap, if◌then◌else◌, eqb-true, eq-eqb, IsTrue, ◌↔◌}
+use Rattle.std.proofs.Common.{◌≡◌, ℕ, Bool, true, false, nat_eq, List, [], ◌∷◌, Option, Some, None, refl, sym, ◌∙◌, ap, if◌then◌else◌, eqb-true, eq-eqb, IsTrue, ◌↔◌}
 use Rattle.th_tree.specs.declared.tokens.Reserved.{Reserved}
 use Rattle.th_tree.specs.declared.tokens.Reserved.TheVariants.{KeyModule, KeyInterface, KeyImplements, KeyUses, KeyType, KeyClass, KeyFor, KeyInherits, KeyWhere, KeyHas, KeyException, KeyRoutine, KeyIter, KeyInit, KeyHidden, KeyField, KeyReturns, KeyYields, KeySignals, KeyVar, KeyIf, KeyThen, KeyElseif, KeyElse, KeyEnd, KeyWhile, KeyDo, KeyIn, KeyBreak, KeyReturn, KeyYield, KeyRaise, KeyBegin, KeyExcept, KeyWhen, KeyNew, KeyArray, KeyInt, KeyBool, KeyTrue, KeyFalse, KeySelf, KeySuper, KeyOr, KeyAnd, KeyNot, KeyLength, KeyPutByte, KeyPutInt, KeyGetByte, KeyOverflow, KeyZeroDivide, KeyBounds, KeyEndOfInput, KeyString, KeyPutString}
 use Rattle.th_tree.specs.declared.tokens.Sym.{Sym}
@@ -9,7 +9,7 @@ use Rattle.th_tree.specs.declared.lexeme.Mark.TheVariants.{Name, Word, Number, S
 use Rattle.th_tree.specs.declared.lexeme.Lexeme.{Lexeme}
 use Rattle.th_tree.specs.Forms.{lex}
 use Rattle.th_tree.specs.Tokens.{all_words, all_symbols}
-use Rattle.th_syntax.specs.Read.{peek, word_code, sign_code, code, code_of, member, in_set, is_mark}
+use Rattle.th_syntax.specs.Read.{peek, word_code, sign_code, code, is_mark}
 use Rattle.th_syntax.proofs.Good.{Headed}
 
 abbrev find_word : List Reserved → ℕ → Option Mark → Option Mark

@@ -1,14 +1,14 @@
 -- Readings of lists, and steps one after another.
-use Rattle.std.proofs.Common.{◌≡◌, ℕ, zero, suc, ◌≤◌, ◌<◌, ◌+◌, Bool, true, false, List, [], ◌∷◌, ◌++◌, length, Option, Some, None, refl, sym, ◌∙◌, subst, ap, append_assoc, append-nil, length-append, le_refl, if◌then◌else◌, arith}
+use Rattle.std.proofs.Common.{◌≡◌, ℕ, zero, suc, ◌≤◌, ◌<◌, ◌+◌, Bool, true, false, List, [], ◌∷◌, ◌++◌, length, Option, refl, sym, subst, append_assoc, append-nil, length-append, le_refl, if◌then◌else◌, arith}
 use Rattle.th_tree.specs.declared.lexeme.Mark.{Mark}
 use Rattle.th_tree.specs.declared.lexeme.Lexeme.{Lexeme}
 use Rattle.th_tree.specs.Forms.{lex, Many, none_more, one_more, Listed, last_one, one_before, Steps, no_step, a_step}
-use Rattle.th_syntax.specs.Read.{Res, Got, Bad, P, bind, peek, take_one, code, code_of, member, in_set, is_mark, many, listed, steps}
+use Rattle.th_syntax.specs.Read.{Got, Bad, P, bind, peek, take_one, code, code_of, member, in_set, is_mark, many, listed, steps}
 use Rattle.th_syntax.proofs.Good.{Good, good_got, good_bad, good_map, good_bind, good_if, good_take}
-use Rattle.th_syntax.proofs.Steady.{Steady, steady_got, steady_bad, steady_weak, steady_none, steady_empty, steady_bind, steady_one, steady_take, steady_look, steady_test}
-use Rattle.th_syntax.proofs.Sets.{disjoint, joined_if, disjoint_out, out_left, out_right, Heads, heads_then, heads_left, heads_right, follows, begins, begins_not, both, not_true}
+use Rattle.th_syntax.proofs.Steady.{Steady, steady_got, steady_bad, steady_weak, steady_none, steady_empty, steady_bind, steady_take, steady_look, steady_test}
+use Rattle.th_syntax.proofs.Sets.{disjoint, joined_if, disjoint_out, out_left, out_right, Heads, heads_left, heads_right, follows, begins, begins_not, not_true}
 use Rattle.th_syntax.proofs.Marks.{Exact, is_mark_same, tells}
-use Rattle.th_syntax.proofs.Law.{Law, a_word, Second, steady_then, front_le, behind_le, rest_le, bind_got}
+use Rattle.th_syntax.proofs.Law.{Law, steady_then, front_le, behind_le, rest_le}
 
 -- a word that isn't empty has a lexeme
 pub one_long : (f : List ℕ) (us : List Lexeme) → Heads f false us → 1 ≤ length us

@@ -1,10 +1,9 @@
 -- Readings where there is room, and heights of lists.
-use Rattle.std.proofs.Common.{◌≡◌, ◌≢◌, ℕ, zero, suc, max, ◌≤◌, ◌<◌, ◌+◌, ◌-◌, List, refl, sym, ◌∙◌, ap, arith}
+use Rattle.std.proofs.Common.{◌≡◌, ◌≢◌, ℕ, zero, suc, max, ◌-◌, List, refl, sym, ◌∙◌, ap, arith}
 use Rattle.th_tree.specs.declared.lexeme.Lexeme.{Lexeme}
-use Rattle.th_tree.specs.Trees.{TypeSyn, TypeSyns, no_type, more_types, type_height, types_height, ExprSyns, no_expr, more_exprs}
+use Rattle.th_tree.specs.Trees.{TypeSyn, TypeSyns, no_type, more_types, type_height, types_height, more_exprs}
 use Rattle.th_tree.specs.Onto.{types_onto, exprs_onto}
 use Rattle.th_tree.specs.Grammar.{Form, Found, Founds, no_founds, more_founds}
-use Rattle.th_syntax.specs.Read.{Res, P}
 use Rattle.th_syntax.specs.Founds.{founds, founds_onto}
 use Rattle.th_syntax.specs.Parse.{read_type, type_of, read_named, named_type_of, read_form, form_of}
 

@@ -1,11 +1,7 @@
 -- Sets of marks, as lists of their numbers.
-use Rattle.std.proofs.Common.{◌≡◌, ℕ, zero, suc, Bool, true, false, nat_eq, List, [], ◌∷◌, ◌++◌, Option, Some, None, refl, sym, ◌∙◌, subst, ap, if◌then◌else◌, eqb-true}
-use Rattle.th_tree.specs.declared.tokens.Reserved.{Reserved}
-use Rattle.th_tree.specs.declared.tokens.Sym.{Sym}
-use Rattle.th_tree.specs.declared.lexeme.Mark.{Mark}
-use Rattle.th_tree.specs.declared.lexeme.Mark.TheVariants.{Name, Word, Number, Symbol, Text}
+use Rattle.std.proofs.Common.{◌≡◌, ℕ, Bool, true, false, nat_eq, List, [], ◌∷◌, ◌++◌, refl, sym, ◌∙◌, if◌then◌else◌, eqb-true}
 use Rattle.th_tree.specs.declared.lexeme.Lexeme.{Lexeme}
-use Rattle.th_syntax.specs.Read.{peek, code, code_of, member, in_set}
+use Rattle.th_syntax.specs.Read.{peek, code, member, in_set}
 
 -- no member of the one is a member of the other
 abbrev pub disjoint : List ℕ → List ℕ → Bool

@@ -1,19 +1,19 @@
 -- Types are read exactly.
-use Rattle.std.proofs.Common.{◌≡◌, ℕ, zero, suc, ◌≤◌, ◌<◌, Bool, true, false, nat_lt, List, [], ◌∷◌, ◌++◌, Option, Some, None, refl, arith}
+use Rattle.std.proofs.Common.{◌≡◌, ℕ, zero, suc, true, false, nat_lt, List, [], ◌∷◌, refl, arith}
 use Rattle.std.proofs.lemmas.Bool.{ltb-false}
 use Rattle.th_tree.specs.declared.tokens.Reserved.TheVariants.{KeyInt, KeyBool, KeyString, KeyArray}
 use Rattle.th_tree.specs.declared.tokens.Sym.TheVariants.{OpenSquare, CloseSquare, Comma, Colon, Dollar}
 use Rattle.th_tree.specs.declared.lexeme.Mark.TheVariants.{Word, Symbol}
 use Rattle.th_tree.specs.declared.lexeme.Lexeme.{Lexeme}
-use Rattle.th_tree.specs.Trees.{TypeSyn, int_type, bool_type, text_type, array_type, named_type, TypeSyns, no_type, more_types, NamedSyn, FormalSyn}
-use Rattle.th_tree.specs.Forms.{Lang, Then, Done}
+use Rattle.th_tree.specs.Trees.{TypeSyn, int_type, bool_type, text_type, array_type, named_type, no_type, more_types, NamedSyn, FormalSyn}
+use Rattle.th_tree.specs.Forms.{Lang}
 use Rattle.th_tree.specs.Grammar.{TypeArgs, Named, ArrayType, AType, TypeAt, NamedAt, FormalAt}
 use Rattle.th_syntax.specs.Read.{P, code}
 use Rattle.th_syntax.specs.Parse.{type_args, named_type_of, array_type_of, type_of, read_type, read_named, read_formal}
 use Rattle.th_syntax.proofs.Law.{Law, law_weak, law_done, law_then, law_the}
 use Rattle.th_syntax.proofs.Choice.{law_either, law_first_if}
 use Rattle.th_syntax.proofs.Repeat.{law_listed}
-use Rattle.th_syntax.proofs.Words.{law_name, law_ref, law_after, law_place, law_between, none_next, none_then, none_between, none_listed, some_room}
+use Rattle.th_syntax.proofs.Words.{law_name, law_ref, law_after, law_place, law_between, none_next, none_then, none_between, none_listed}
 
 -- the marks with which a type begins, and those that may go on with it
 abbrev pub type_first : List ℕ
@@ -69,4 +69,4 @@ pub law_formal : (r : ℕ) → nat_lt 0 r ≡ true → Law (FormalAt r) (read_fo
 law_formal r e = law_then law_name (λ i xs h. law_after (Symbol Colon) tt (law_then (law_type r e) (λ t ys j. law_done (record { name = i; of = t })) refl)) refl
 
 pub none_formal : (r : ℕ) → nat_lt 0 r ≡ false → (a : FormalSyn) (xs : List Lexeme) → FormalAt r a xs → ⊥
-pub none_formal r e = none_next (λ n. none_next (λ q. none_then (none_type r e)))
+none_formal r e = none_next (λ n. none_next (λ q. none_then (none_type r e)))

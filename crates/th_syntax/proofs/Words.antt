@@ -1,13 +1,13 @@
 -- Laws of the commonest readings, and languages without words.
-use Rattle.std.proofs.Common.{◌≡◌, ℕ, zero, suc, ◌≤◌, ◌<◌, Bool, true, false, nat_lt, List, [], ◌∷◌, ◌++◌, Option, Some, None, refl, sym, ◌∙◌, subst, ap, arith}
+use Rattle.std.proofs.Common.{◌≡◌, ℕ, zero, suc, ◌<◌, Bool, true, false, nat_lt, List, [], ◌∷◌, ◌++◌, Some, None, refl, ap, arith}
 use Rattle.th_tree.specs.declared.tokens.Sym.TheVariants.{Dollar}
 use Rattle.th_tree.specs.declared.lexeme.Mark.{Mark}
-use Rattle.th_tree.specs.declared.lexeme.Mark.TheVariants.{Name, Word, Number, Symbol, Text}
+use Rattle.th_tree.specs.declared.lexeme.Mark.TheVariants.{Name, Number, Symbol, Text}
 use Rattle.th_tree.specs.declared.lexeme.Lexeme.{Lexeme}
-use Rattle.th_tree.specs.Forms.{Lang, Nothing, lex, Done, done, The, the, Valued, Then, in_turn, Either, left, right, Many, none_more, one_more, Listed, last_one, one_before, Steps, no_step, a_step, Where, where_holds, After, Between, Maybe, AName}
-use Rattle.th_tree.specs.Grammar.{Ref, Found, found}
+use Rattle.th_tree.specs.Forms.{lex, Done, The, Valued, Then, in_turn, Either, left, right, Listed, last_one, one_before, After, Between, Maybe, AName}
+use Rattle.th_tree.specs.Grammar.{Ref, found}
 use Rattle.th_tree.specs.Trees.{number_expr, text_expr}
-use Rattle.th_syntax.specs.Read.{P, Got, peek, code, member, valued, name_in, number_in, text_in, seq, ret, one, after, between, either, maybe, list_of, any_of}
+use Rattle.th_syntax.specs.Read.{P, peek, code, valued, name_in, number_in, text_in, seq, ret, one, after, between, maybe}
 use Rattle.th_syntax.specs.Parse.{read_name, read_ref}
 use Rattle.th_syntax.proofs.Good.{Headed}
 use Rattle.th_syntax.proofs.Sets.{disjoint, joined_if}

@@ -1,5 +1,5 @@
 -- What the code read of expressions, without where it lies in memory.
-use Rattle.std.specs.Prelude.{ℕ, max, List}
+use Rattle.std.specs.Prelude.{ℕ, max}
 use Rattle.th_tree.specs.declared.tokens.Sym.TheVariants.{Comma}
 use Rattle.th_tree.specs.declared.lexeme.Mark.TheVariants.{Symbol}
 use Rattle.th_tree.specs.Trees.{ExprSyns}

@@ -1,5 +1,5 @@
 -- What a function of the code owes: what the reading on lists gives.
-use Rattle.std.specs.Prelude.{◌≡◌, ℕ, List, Result, Ok, Err}
+use Rattle.std.specs.Prelude.{◌≡◌, List, Result, Ok, Err}
 use Rattle.th_tree.specs.declared.lexeme.Lexeme.{Lexeme}
 use Rattle.th_syntax.specs.declared.step.Stop.{Stop}
 use Rattle.th_syntax.specs.declared.step.Stop.TheVariants.{Memory, Wrong}

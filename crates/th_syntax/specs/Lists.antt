@@ -1,5 +1,5 @@
 -- Lists of trees that the code builds back to front.
-use Rattle.std.specs.Prelude.{ℕ, List}
+use Rattle.std.specs.Prelude.{ℕ}
 use Rattle.th_tree.specs.declared.tokens.Sym.TheVariants.{Comma}
 use Rattle.th_tree.specs.declared.lexeme.Mark.TheVariants.{Symbol}
 use Rattle.th_tree.specs.Trees.{TypeSyns, no_type, more_types}

@@ -1,6 +1,5 @@
-use Rattle.std.proofs.Common.{◌≡◌, ◌+◌, ◌-◌, ◌<◌, length, drop, get_or, sym, ◌∙◌, ap, arith}
+use Rattle.std.proofs.Common.{drop, get_or, arith}
 use Rattle.std.proofs.lemmas.List.{length-drop}
-use Rattle.th_tree.specs.Spans.{bytes_of}
 use Rattle.th_syntax.proofs.Tables.{no_token, numbering_step, numbering_room, grown_then}
 use Rattle.th_syntax.proofs.numbering.lexemes.Goals as goal
 

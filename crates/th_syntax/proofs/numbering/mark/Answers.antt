@@ -1,7 +1,6 @@
-use Rattle.std.proofs.Common.{◌≡◌, sym, ◌∙◌, ap, subst, true}
+use Rattle.std.proofs.Common.{◌≡◌, ◌∙◌, ap, subst, true}
 use Rattle.th_tree.specs.declared.lexeme.Mark.TheVariants as marks
-use Rattle.th_tree.specs.Numbered.{literal_value}
-use Rattle.th_tree.specs.Names.{is_there, place_of}
+use Rattle.th_tree.specs.Names.{is_there}
 use Rattle.th_syntax.proofs.Tables.{number_is, number_there}
 use Rattle.th_syntax.proofs.numbering.mark.Goals as goal
 

@@ -1,4 +1,3 @@
-use Rattle.std.proofs.Common.{◌≡◌}
 use Rattle.th_syntax.proofs.Marks.{word_test}
 use Rattle.th_syntax.proofs.step.is_word.Goals as goal
 

@@ -1,4 +1,4 @@
-use Rattle.std.proofs.Common.{◌≡◌, sym, ◌∙◌}
+use Rattle.std.proofs.Common.{sym, ◌∙◌}
 use denote.Enum.Bare.{same_true, true_same}
 use Rattle.th_tree.specs.contracts.tokens.Reserved.{the_type}
 use Rattle.th_syntax.proofs.step.same_word.Goals as goal

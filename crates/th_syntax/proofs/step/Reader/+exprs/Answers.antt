@@ -1,16 +1,17 @@
-use Rattle.std.proofs.Common.{◌≡◌, ◌≤◌, ◌+◌, ◌-◌, max, suc, refl, sym, ◌∙◌, ap, arith}
+use Rattle.std.proofs.Common.{◌+◌, ◌-◌, sym, ◌∙◌, ap, arith}
 use Rattle.std.proofs.lemmas.Result.{err_from_is_err_and}
 use Rattle.std.proofs.lemmas.Bool.{le-leb, lt-leb}
 use Rattle.th_tree.specs.declared.tokens.Sym.TheVariants.{Comma}
 use Rattle.th_tree.specs.declared.lexeme.Mark.TheVariants.{Symbol}
-use Rattle.th_tree.specs.View.{expr_of, exprs_of}
+use Rattle.th_tree.specs.View.{type_of}
 use Rattle.th_tree.specs.Grammar.{Expr, operator_of, no_founds, more_founds}
-use Rattle.th_syntax.specs.Read.{Got, in_set, has, lookup, steps, bind, listed}
-use Rattle.th_syntax.specs.Parse.{read_form, suffix_first, suffix_of, suffixes, atom_of, goes_on, post_of, operand_of, chain}
+use Rattle.th_syntax.specs.Read.{Got, in_set, has, lookup, bind, listed}
+use Rattle.th_syntax.specs.Parse.{read_form, suffix_first, suffix_of, suffixes, goes_on, post_of, operand_of, chain}
 use Rattle.th_syntax.specs.Founds.{read_of, list_of, form_named, expr_list, founds_onto}
 use Rattle.th_syntax.specs.Lists.{with_back}
 use Rattle.th_syntax.proofs.Loops.{one_item, last_item, first_step, one_step, shut_step, bad_step}
 use Rattle.th_syntax.proofs.Rooms.{form_room, founds_law}
+use Rattle.th_syntax.proofs.Heads.{array_goes}
 use Rattle.th_syntax.proofs.step.Reader.+exprs.Goals as goal
 
 pub expr-returns-clause-gives : goal.expr-returns-clause-gives
@@ -69,12 +70,16 @@ pub exprs-returns-then-not-at_symbol-clause-gives : goal.exprs-returns-then-not-
 exprs-returns-then-not-at_symbol-clause-gives t c =
     let all = last_item (Symbol Comma) (read_form c.args.r Expr) more_founds no_founds founds_onto (λ b a. more_founds a b) founds_law c.args.self.most c.loop.counter c.args.self.most (list_of c.loop.back) (read_of c.in_ok-one.one) c.loop.rest.now c.in_ok-one.after.now
     (expr_list c.args.r c.args.self.most c.args.tokens.now) c.loop-test.true c.in_ok-one.ensures.gives c.if-not-at_symbol.ensures c.loop.invariant.0 in
-    rw (c.turned.ensures.list, c.in_ok-back.ensures.list) all
+    all ∙ ap (λ b. Got b c.in_ok-one.after.now) (ap (λ b. founds_onto b no_founds) (sym c.in_ok-back.ensures.list) ∙ sym c.turned.ensures.list)
 
 pub exprs-loop-preserved : goal.exprs-loop-preserved
 exprs-loop-preserved t c =
     let turn = one_item (Symbol Comma) (read_form c.args.r Expr) more_founds no_founds founds_onto (λ b a. more_founds a b) founds_law c.args.self.most c.loop.counter c.args.self.most c.in_ok-next.field-0-0 (list_of c.loop.back) (read_of c.in_ok-one.one) c.loop.rest.now
     c.in_ok-one.after.now c.in_ok-next.next.now (expr_list c.args.r c.args.self.most c.args.tokens.now) c.loop-test.true c.in_ok-one.ensures.gives c.if-not-at_symbol.ensures c.in_ok-next.ensures c.loop.invariant.0 in (
-      rw c.in_ok-back.ensures.list turn,
+      turn ∙ ap (λ b. with_back founds_onto b (listed (Symbol Comma) (read_form c.args.r Expr) more_founds no_founds (c.args.self.most - (c.loop.counter + 1)) c.args.self.most c.in_ok-next.next.now)) (sym c.in_ok-back.ensures.list),
       omega (arith, c.in_ok-back.ensures.height, c.in_ok-one.ensures.low, c.loop.invariant.1),
     )
+
+pub new_value-returns-then-at_word-clause-gives : goal.new_value-returns-then-at_word-clause-gives
+new_value-returns-then-at_word-clause-gives t c =
+    rw (array_goes c.args.r (read_form c.args.r) c.in_ok-at.at c.args.self.most (type_of c.in_ok-of.of.tree) c.args.tokens.now c.in_ok-at.rest.now c.in_ok-of.rest.now c.if-r-eq0.false c.in_ok-at.ensures c.if-at_word.ensures c.in_ok-of.ensures.gives) c.new_array.ensures.gives

@@ -1,13 +1,13 @@
-use Rattle.std.proofs.Common.{◌≡◌, ◌≤◌, ◌+◌, ◌-◌, max, refl, sym, ◌∙◌, ap, arith}
+use Rattle.std.proofs.Common.{◌-◌, refl, arith}
 use Rattle.std.proofs.lemmas.Result.{err_from_is_err_and}
 use Rattle.th_tree.specs.declared.tokens.Sym.TheVariants.{Comma}
 use Rattle.th_tree.specs.declared.lexeme.Mark.TheVariants.{Symbol}
-use Rattle.th_tree.specs.Trees.{no_type, more_types, types_height}
+use Rattle.th_tree.specs.Trees.{no_type, more_types}
 use Rattle.th_tree.specs.View.{type_of, types_of}
 use Rattle.th_tree.specs.Onto.{types_onto}
 use Rattle.th_syntax.specs.Parse.{read_type}
 use Rattle.th_syntax.specs.Lists.{type_list}
-use Rattle.th_syntax.proofs.Loops.{one_item, last_item, end_item, bad_item}
+use Rattle.th_syntax.proofs.Loops.{one_item, last_item, bad_item}
 use Rattle.th_syntax.proofs.Rooms.{type_room, turned_height, grown_height}
 use Rattle.th_syntax.proofs.step.Reader.+types.Goals as goal
 
