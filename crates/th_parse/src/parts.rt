@@ -56,7 +56,11 @@ pub fn more_first<'a>(alloc: Global, tree: Stmt, trees: Body) -> Result<Body, St
 }
 
 /// The parts with one more `elseif` before them.
-pub fn more_elseif<'a>(alloc: Global, part: ElseifRead, rest: ElseTree) -> Result<ElseTree, Stop<'a>>
+pub fn more_elseif<'a>(
+    alloc: Global,
+    part: ElseifRead,
+    rest: ElseTree,
+) -> Result<ElseTree, Stop<'a>>
     ensures { MatchResult result (λ l. else_tree_of l ≡ more_elses (elseif_part part) (else_tree_of rest)) (λ e. e ≡ Memory) }
 {
     let body = boxed_body(alloc, part.body)?;

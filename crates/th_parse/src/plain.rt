@@ -194,7 +194,6 @@ pub fn put_string<'a>(reader: Reader, r: u32, tokens: &'a [Lexeme]) -> Step<'a, 
     Ok((Stmt::PutString(at, value), rest))
 }
 
-
 /// Whether a mark with which a statement begins is next.
 pub fn starts_statement(tokens: &[Lexeme]) -> bool
     ensures { in_set stmt_first (peek tokens.now) ≡ result }
@@ -240,4 +239,3 @@ fn is_start_word(word: Reserved) -> bool
             | Reserved::KeyGetByte
     )
 }
-

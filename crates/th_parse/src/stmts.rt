@@ -11,8 +11,14 @@ ghost use Rattle.th_syntax.specs.Gives.{Gives};
 ghost use Rattle.th_parse.specs.Parts.{elseif_part, when_part};
 ghost use Rattle.th_syntax.specs.Lists.{with_back};
 
-use crate::parts::{begin_tree, else_none, else_some, for_tree, if_tree, more_elseif, more_first, more_when, when_end, while_tree};
-use crate::plain::{break_stmt, exception, post_stmt, put_byte, put_int, put_string, raise_stmt, return_stmt, starts_statement, var_stmt, variable, yield_stmt};
+use crate::parts::{
+    begin_tree, else_none, else_some, for_tree, if_tree, more_elseif, more_first, more_when,
+    when_end, while_tree,
+};
+use crate::plain::{
+    break_stmt, exception, post_stmt, put_byte, put_int, put_string, raise_stmt, return_stmt,
+    starts_statement, var_stmt, variable, yield_stmt,
+};
 use th_syntax::{Level, Reader, Step, Stop, at_word, word};
 use th_tree::{Body, ElseTree, ExcTree, Expr, Formal, Lexeme, Mark, Reserved, Stmt, WhenList};
 

@@ -21,18 +21,18 @@ returns-clause-answer c = tt
 -- the lexemes that were read from, and how many
 pub overflow_sub-result : goal.overflow_sub-result
 overflow_sub-result c =
-    left_short c.args.room c.len.result c.lexemes.new.names c.args.tokens.now.text c.args.from c.args.tokens.now.list c.in-Ok.found.items c.deref.result.now c.in-Ok-body.rest.now (body_of c.in-Ok-body.body)
-    c.in-Ok.ensures.lexemes c.deref.ensures.value (c.len.ensures ∙ c.in-Ok.found.ok.0) c.in-Ok-body.ensures c.len-in-Ok-body.result c.len-in-Ok-body.ensures
+    left_short c.args.room c.len.result c.lexemes.new.names c.args.tokens.now.text c.args.from c.args.tokens.now.list c.in-Ok.found.items c.deref.result.now c.in-Ok-body_tree.rest.now (body_of c.in-Ok-body_tree.body)
+    c.in-Ok.ensures.lexemes c.deref.ensures.value (c.len.ensures ∙ c.in-Ok.found.ok.0) c.in-Ok-body_tree.ensures c.len-in-Ok-body_tree.result c.len-in-Ok-body_tree.ensures
 
-pub returns-in-Ok-body-clause-answer : goal.returns-in-Ok-body-clause-answer
+pub returns-in-Ok-body_tree-clause-answer : goal.returns-in-Ok-body_tree-clause-answer
 unfolding IsBodyAnswer
-returns-in-Ok-body-clause-answer c =
-    let short = left_short c.args.room c.len.result c.lexemes.new.names c.args.tokens.now.text c.args.from c.args.tokens.now.list c.in-Ok.found.items c.deref.result.now c.in-Ok-body.rest.now (body_of c.in-Ok-body.body)
-    c.in-Ok.ensures.lexemes c.deref.ensures.value (c.len.ensures ∙ c.in-Ok.found.ok.0) c.in-Ok-body.ensures c.len-in-Ok-body.result c.len-in-Ok-body.ensures in (
-      c.in-Ok-body.rest.now,
-      subst (λ ts. BodyFront c.args.room (body_of c.in-Ok-body.body) ts c.in-Ok-body.rest.now) (c.deref.ensures.value ∙ c.in-Ok.ensures.lexemes)
-          (body_front c.args.room c.len.result c.deref.result.now c.in-Ok-body.rest.now (body_of c.in-Ok-body.body) (lt-ltb 0 c.args.room c.requires.some) (same_length c.in-Ok.found.items c.deref.result.now c.len.result c.deref.ensures.value (c.len.ensures ∙ c.in-Ok.found.ok.0)) c.in-Ok-body.ensures),
-      omega (arith, short, c.len-in-Ok-body.ensures),
+returns-in-Ok-body_tree-clause-answer c =
+    let short = left_short c.args.room c.len.result c.lexemes.new.names c.args.tokens.now.text c.args.from c.args.tokens.now.list c.in-Ok.found.items c.deref.result.now c.in-Ok-body_tree.rest.now (body_of c.in-Ok-body_tree.body)
+    c.in-Ok.ensures.lexemes c.deref.ensures.value (c.len.ensures ∙ c.in-Ok.found.ok.0) c.in-Ok-body_tree.ensures c.len-in-Ok-body_tree.result c.len-in-Ok-body_tree.ensures in (
+      c.in-Ok-body_tree.rest.now,
+      subst (λ ts. BodyFront c.args.room (body_of c.in-Ok-body_tree.body) ts c.in-Ok-body_tree.rest.now) (c.deref.ensures.value ∙ c.in-Ok.ensures.lexemes)
+          (body_front c.args.room c.len.result c.deref.result.now c.in-Ok-body_tree.rest.now (body_of c.in-Ok-body_tree.body) (lt-ltb 0 c.args.room c.requires.some) (same_length c.in-Ok.found.items c.deref.result.now c.len.result c.deref.ensures.value (c.len.ensures ∙ c.in-Ok.found.ok.0)) c.in-Ok-body_tree.ensures),
+      omega (arith, short, c.len-in-Ok-body_tree.ensures),
     )
 
 pub returns-in-Err-Wrong-clause-answer : goal.returns-in-Err-Wrong-clause-answer
