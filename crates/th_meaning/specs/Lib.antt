@@ -5,3 +5,4 @@ pub mod Counts
 pub mod Weights
 pub mod Meaning
 pub mod Run
+pub mod View
