@@ -1,6 +1,7 @@
 //! Checked programs: their trees, how large they are, and what they mean.
 #![tactic(auto)]
 
+mod count_depth;
 mod count_locals;
 mod count_nodes;
 mod declared;
@@ -8,6 +9,7 @@ mod expr;
 mod stmt;
 mod types;
 
+pub use count_depth::depth;
 pub use count_locals::locals;
 pub use count_nodes::nodes;
 pub use declared::{
