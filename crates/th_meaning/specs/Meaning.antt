@@ -362,18 +362,16 @@ if_done Exit st next = Gives Exit st
 if_done (Return v) st next = Gives (Return v) st
 if_done (Cut l) st next = Gives (Cut l) st
 
--- what follows the body of a `while`
-abbrev pub after_body : Outcome How → (State → Outcome How) → Outcome How
-after_body (Gives Done st) again = again st
-after_body (Gives Exit st) again = Gives Done st
-after_body (Gives (Return v) st) again = Gives (Return v) st
-after_body (Gives (Cut l) st) again = Gives (Cut l) st
-after_body (Raises x v st) again = Raises x v st
-after_body (Halts h w) again = Halts h w
+-- what follows the body of a `while` that ended so
+abbrev pub again_of : (State → Outcome How) → How → State → Outcome How
+again_of again Done st = again st
+again_of again Exit st = Gives Done st
+again_of again (Return v) st = Gives (Return v) st
+again_of again (Cut l) st = Gives (Cut l) st
 
 -- what follows the test of a `while`: where it holds one turn, then the body, then again
 abbrev pub while_of : (State → Outcome How) → (State → Outcome How) → Value → State → Outcome How
-while_of body again v st = with_truth v st (λ x. if x then then_do (act (spend 1 st.world) st) (λ _ st1. after_body (body st1) again) else Gives Done st)
+while_of body again v st = with_truth v st (λ x. if x then then_do (act (spend 1 st.world) st) (λ _ st1. then_do (body st1) (again_of again)) else Gives Done st)
 
 -- a `while`, with a bound on its turns
 abbrev pub loops : ℕ → (State → Outcome Value) → (State → Outcome How) → State → Outcome How
