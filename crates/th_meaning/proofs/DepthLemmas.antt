@@ -12,7 +12,7 @@ capped_from k no_expr = refl
 capped_from k (more_exprs e es) =
     let places : min (suc (min k most)) most ≡ min (suc k) most = omega arith in
     let same : min (exprs_depth (suc (min k most)) es) most ≡ min (exprs_depth (suc k) es) most =
-        sym (capped_from (suc (min k most)) es) ∙ ap (λ place. min (exprs_depth place es) most) places ∙ capped_from (suc k) es in
+    sym (capped_from (suc (min k most)) es) ∙ ap (λ place. min (exprs_depth place es) most) places ∙ capped_from (suc k) es in
     omega (arith, same)
 
 -- the next place

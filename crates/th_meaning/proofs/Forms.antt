@@ -87,12 +87,13 @@ module _ {k d : ℕ} where
   aimed_spent (Some t) =
       let all : Fine k d (aimed (Some t)) (aimed (Some t)) = fine_then (fine_act (fine_spend d 1)) (λ _. fine_result t) in
       record { spends = λ st. on st (act (spend 1 st.world) st) (charge.spends st); more = all.more; grows = all.grows } where
-    charge : Spent k d (λ st. act (spend 1 st.world) st) (λ st. act (spend 1 st.world) st)
-    charge = spent_charge
-    on : (st : State) (o : Outcome (Unit {0})) → Spends k st.world o → Spends k st.world (then_do o (λ _ st1. Gives t st1))
-    on st (Gives a st1) h = h
-    on st (Raises x v st1) h = h
-    on st (Halts x w) h = h
+        charge : Spent k d (λ st. act (spend 1 st.world) st) (λ st. act (spend 1 st.world) st)
+        charge = spent_charge
+
+        on : (st : State) (o : Outcome (Unit {0})) → Spends k st.world o → Spends k st.world (then_do o (λ _ st1. Gives t st1))
+        on st (Gives a st1) h = h
+        on st (Raises x v st1) h = h
+        on st (Halts x w) h = h
 
   aim_method_spent : (p : Program) (method : List ℕ) (v : Value) (args : List Value) → Spent k d (aim_method p method v args) (aim_method p method v args)
   aim_method_spent p method v args = spent_by (λ st. method_target p method v args st.world) (target_same v) aimed_spent where
@@ -125,7 +126,7 @@ pub record FineUnits (k d : ℕ) (units units1 : Units) : Type 0 where
   pub more : (unit : List ℕ) (receiver : Option ℕ) (args : List Value) (body body1 : Body) (homes : List Frame) → FineBody k d body body1 → (w : World Value) → More d (units unit receiver args body homes w) (units1 unit receiver args body1 homes (plus d w))
   pub grows : (unit : List ℕ) (receiver : Option ℕ) (args : List Value) (body body1 : Body) (homes : List Frame) → FineBody k d body body1 → (w : World Value) → Prefix w.trace (trace_of (units1 unit receiver args body1 homes w))
 
-no_body_fine : {k d : ℕ} → FineBody k d no_body no_body
+pub no_body_fine : {k d : ℕ} → FineBody k d no_body no_body
 no_body_fine = record { fine = λ v. fine_stuck }
 
 back_sane : (k : ℕ) (w : World Value) (st : State) (o : Outcome How) → Sane k w o → Sane k w (back_in st o)
@@ -413,9 +414,114 @@ while_fine : {k j d : ℕ} {test test1 : State → Outcome Value} {body body1 ag
     → Fine (suc j) d (λ st. then_do (test st) (while_of body again)) (λ st. then_do (test1 st) (while_of body1 again1))
 while_fine le t b a = fine_then (fine_less le t) (λ v. fine_truth v (λ x. fine_choice x (spent_then spent_charge (λ _. fine_then (fine_less (omega (arith, le)) b) (again_fine a))) (fine_result Done)))
 
-loops_fine : {k d : ℕ} {test test1 : State → Outcome Value} {body body1 : State → Outcome How} (j j1 : ℕ) → j ≤ j1 → suc j ≤ suc k → Fine (suc k) d test test1 → Fine (suc k) d body body1
+loops_fine : {k d : ℕ} {test test1 : State → Outcome Value} {body body1 : State → Outcome How} (j j1 : ℕ) → j ≤ j1 → j ≤ suc k → Fine (suc k) d test test1 → Fine (suc k) d body body1
     → Fine j d (loops j test body) (loops j1 test1 body1)
 loops_fine zero zero le most t b = record { sane = λ st. (later_refl st.world, λ lt. absurd (omega (arith, lt))); more = λ st. tt; grows = λ st. prefix_refl st.world.trace }
-loops_fine zero (suc j1) le most t b = record { sane = λ st. (later_refl st.world, λ lt. absurd (omega (arith, lt))); more = λ st. tt; grows = (while_fine (omega (arith, most)) t b (loops_fine zero j1 (omega arith) most t b)).grows }
+loops_fine zero (suc j1) le most t b = record { sane = λ st. (later_refl st.world, λ lt. absurd (omega (arith, lt))); more = λ st. tt; grows = (while_fine (omega arith) t b (loops_fine zero j1 (omega arith) most t b)).grows }
 loops_fine (suc j) zero le most t b = absurd (omega (arith, le))
-loops_fine (suc j) (suc j1) le most t b = while_fine (omega (arith, most)) t b (loops_fine j j1 (omega (arith, le)) (omega (arith, most)) t b)
+loops_fine (suc j) (suc j1) le most t b = while_fine most t b (loops_fine j j1 (omega (arith, le)) (omega (arith, most)) t b)
+
+-- a `for` over the iterator that is called
+looped_fine : {k d : ℕ} {units units1 : Units} {body body1 : Body} → FineUnits k d units units1 → FineBody k d body body1 → (t : Target) → Fine k d (looped units body t) (looped units1 body1 t)
+looped_fine {k = k} {d = d} {units = units} {units1 = units1} {body = body} {body1 = body1} fine fb (Enters unit receiver args) = record {
+  sane = λ st. for_sane k st.world (units unit receiver args body (st.frame ∷ st.homes) st.world) (fine.sane unit receiver args body body1 (st.frame ∷ st.homes) fb st.world);
+  more = λ st. for_more d (units unit receiver args body (st.frame ∷ st.homes) st.world) (units1 unit receiver args body1 (st.frame ∷ st.homes) (plus d st.world)) (fine.more unit receiver args body body1 (st.frame ∷ st.homes) fb st.world);
+  grows = λ st. subst (λ t. Prefix st.world.trace t) (for_trace (units1 unit receiver args body1 (st.frame ∷ st.homes) st.world)) (fine.grows unit receiver args body body1 (st.frame ∷ st.homes) fb st.world);
+}
+looped_fine fine fb (Known v) = fine_stuck
+
+less_body : {k d : ℕ} {body body1 : Body} → FineBody (suc k) d body body1 → FineBody k d body body1
+less_body fb = record { fine = λ v. fine_less (omega arith) (fb.fine v) }
+
+module _ {k d : ℕ} {units units1 : Units} (fine : FineUnits k d units units1) (p : Program) (n1 : ℕ) (le : suc k ≤ n1) where
+  mutual
+    exec_fine : (s : StmtTree) {body body1 : Body} → FineBody (suc k) d body body1 → Fine (suc k) d (exec p units (suc k) s body) (exec p units1 n1 s body1)
+    exec_fine (var_stmt x e) fb = fine_then (eval_fine fine p e) (set_local_fine x.local)
+    exec_fine (set_local_stmt n e) fb = fine_then (eval_fine fine p e) (set_local_fine n)
+    exec_fine (set_field_stmt class f e) fb = fine_then (eval_fine fine p e) (set_field_fine class f)
+    exec_fine (set_element_stmt a i e) fb = fine_both (eval_fine fine p a) (eval_fine fine p i) (λ x y. fine_then (eval_fine fine p e) (set_element_fine x y))
+    exec_fine (call_stmt c) fb = spent_then (aim_spent fine p c) (drop_fine fine)
+    exec_fine (drop_stmt c) fb = spent_then (aim_spent fine p c) (drop_fine fine)
+    exec_fine (if_stmt e b r) fb = fine_then (eval_fine fine p e) (if_fine (body_fine b fb) (else_fine r fb))
+    exec_fine (while_stmt e b) fb = loops_fine (suc k) n1 le (omega arith) (eval_fine fine p e) (body_fine b fb)
+    exec_fine (for_stmt x cast c b) fb = spent_then (aim_spent fine p c)
+        (looped_fine fine (record { fine = λ v. fine_map (set_local x.local v) (λ st. refl) (λ st. refl) (fine_less (omega arith) (body_fine b fb)) }))
+    exec_fine break_stmt fb = fine_result Exit
+    exec_fine return_stmt fb = fine_result (Return None)
+    exec_fine (return_value_stmt e) fb = fine_then (eval_fine fine p e) (λ v. fine_result (Return (Some v)))
+    exec_fine (yield_stmt e) fb = fine_then (eval_fine fine p e) (yields_fine fb)
+    exec_fine (raise_stmt x) fb = fine_raise x None
+    exec_fine (raise_value_stmt x e) fb = fine_then (eval_fine fine p e) (λ v. fine_raise x (Some v))
+    exec_fine (begin_stmt b ws) fb = fine_catch (body_fine b fb) (λ x v. handle_fine ws x v fb)
+    exec_fine (put_byte_stmt e) fb = fine_then (eval_fine fine p e) put_byte_fine
+    exec_fine (put_int_stmt e) fb = fine_then (eval_fine fine p e) put_int_fine
+    exec_fine (put_text_stmt e) fb = fine_then (eval_fine fine p e) put_text_fine
+
+    pub body_fine : (b : BodyTree) {body body1 : Body} → FineBody (suc k) d body body1 → Fine (suc k) d (exec_body p units (suc k) b body) (exec_body p units1 n1 b body1)
+    body_fine no_stmt fb = fine_result Done
+    body_fine (more_stmts s rest) fb = fine_then (exec_fine s fb) (λ how. done_fine how (body_fine rest fb))
+
+    else_fine : (r : ElseTree) {body body1 : Body} → FineBody (suc k) d body body1 → Fine (suc k) d (exec_else p units (suc k) r body) (exec_else p units1 n1 r body1)
+    else_fine no_else fb = fine_result Done
+    else_fine (else_do b) fb = body_fine b fb
+    else_fine (elseif_then e b r) fb = fine_then (eval_fine fine p e) (if_fine (body_fine b fb) (else_fine r fb))
+
+    handle_fine : (ws : WhenTrees) (x : List ℕ) (v : Option Value) {body body1 : Body} → FineBody (suc k) d body body1 → Fine (suc k) d (handle p units (suc k) ws x v body) (handle p units1 n1 ws x v body1)
+    handle_fine no_when x v fb = fine_raise x v
+    handle_fine (more_whens y variable b rest) x v fb = fine_choice (bytes_eq x y) (bind_fine variable v (body_fine b fb)) (handle_fine rest x v fb)
+
+-- a unit that is entered
+abbrev entered_in : ProgramUnit → (BodyTree → State → Outcome How) → State → Outcome How
+entered_in u run st = then_do (act (enter (call_weight u) u.name st.world) st) (λ _ st1. closed (call_weight u) (run u.body st1))
+
+abbrev state_of : ProgramUnit → Option ℕ → List Value → List Frame → World Value → State
+state_of u receiver args homes w = record { frame = frame_of u receiver args; homes = homes; world = w }
+
+entered_fine : {k d : ℕ} (u : ProgramUnit) (run run1 : BodyTree → State → Outcome How) → Fine k d (run u.body) (run1 u.body) → Fine k d (entered_in u run) (entered_in u run1)
+entered_fine {d = d} u run run1 h = fine_then (fine_act (fine_enter d (call_weight u) u.name)) (λ _. closed_fine (call_weight u) h)
+
+module _ {k d : ℕ} {run run1 : BodyTree → State → Outcome How} (fine : (b : BodyTree) → Fine k d (run b) (run1 b)) where
+  run_sane : (u : Option ProgramUnit) (receiver : Option ℕ) (args : List Value) (homes : List Frame) (w : World Value) → Sane k w (run_unit u receiver args homes w run)
+  run_sane None receiver args homes w = (later_refl w, λ lt. tt)
+  run_sane (Some u) receiver args homes w = (entered_fine u run run1 (fine u.body)).sane (state_of u receiver args homes w)
+
+  run_more : (u : Option ProgramUnit) (receiver : Option ℕ) (args : List Value) (homes : List Frame) (w : World Value) → More d (run_unit u receiver args homes w run) (run_unit u receiver args homes (plus d w) run1)
+  run_more None receiver args homes w = refl
+  run_more (Some u) receiver args homes w = (entered_fine u run run1 (fine u.body)).more (state_of u receiver args homes w)
+
+  run_grows : (u : Option ProgramUnit) (receiver : Option ℕ) (args : List Value) (homes : List Frame) (w : World Value) → Prefix w.trace (trace_of (run_unit u receiver args homes w run1))
+  run_grows None receiver args homes w = prefix_refl w.trace
+  run_grows (Some u) receiver args homes w = (entered_fine u run run1 (fine u.body)).grows (state_of u receiver args homes w)
+
+-- a loop's body that stops for want of turns
+abbrev out_body : Body
+out_body v st = Halts OutOfTurns st.world
+
+out_fine : {d : ℕ} {body body1 : Body} (k : ℕ) → FineBody k d body body1 → FineBody 1 d out_body body1
+out_fine {d = d} k fb = record { fine = λ v. record { sane = λ st. (later_refl st.world, λ lt. tt); more = λ st. (fb.fine v).grows (plus_state d st); grows = (fb.fine v).grows } }
+
+-- the runs of units with at most k calls open within one another, and with at most k1
+pub level_fine : (p : Program) (d k k1 : ℕ) → k ≤ k1 → FineUnits k d (level p k) (level p k1)
+level_fine p d zero zero le = record {
+  sane = λ unit receiver args body body1 homes fb w. (later_refl w, λ lt. absurd (omega (arith, lt)));
+  more = λ unit receiver args body body1 homes fb w. tt;
+  grows = λ unit receiver args body body1 homes fb w. prefix_refl w.trace;
+}
+level_fine p d zero (suc k1) le = record {
+  sane = λ unit receiver args body body1 homes fb w. (later_refl w, λ lt. absurd (omega (arith, lt)));
+  more = λ unit receiver args body body1 homes fb w. tt;
+  grows = λ unit receiver args body body1 homes fb w.
+      run_grows {k = 1} {d = d} {run = λ b st. exec_body p (level p zero) 1 b out_body st} {run1 = λ b st. exec_body p (level p k1) (suc k1) b body1 st}
+      (λ b. body_fine (level_fine p d zero k1 (omega arith)) p (suc k1) (omega arith) b (out_fine 0 fb)) (unit_named p unit) receiver args homes w;
+}
+level_fine p d (suc k) zero le = absurd (omega (arith, le))
+level_fine p d (suc k) (suc k1) le =
+    let inner : FineUnits k d (level p k) (level p k1) = level_fine p d k k1 (omega (arith, le)) in
+    record {
+      sane = λ unit receiver args body body1 homes fb w. run_sane {run = λ b st. exec_body p (level p k) (suc k) b body st} {run1 = λ b st. exec_body p (level p k1) (suc k1) b body1 st}
+          (λ b. body_fine inner p (suc k1) le b fb) (unit_named p unit) receiver args homes w;
+      more = λ unit receiver args body body1 homes fb w. run_more {run = λ b st. exec_body p (level p k) (suc k) b body st} {run1 = λ b st. exec_body p (level p k1) (suc k1) b body1 st}
+          (λ b. body_fine inner p (suc k1) le b fb) (unit_named p unit) receiver args homes w;
+      grows = λ unit receiver args body body1 homes fb w. run_grows {run = λ b st. exec_body p (level p k) (suc k) b body st} {run1 = λ b st. exec_body p (level p k1) (suc k1) b body1 st}
+          (λ b. body_fine inner p (suc k1) le b fb) (unit_named p unit) receiver args homes w;
+    }

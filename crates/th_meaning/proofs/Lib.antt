@@ -1,6 +1,7 @@
 pub mod DepthLemmas
-mod Effects
-mod EffectLaws
-mod Fine
-mod Forms
+pub mod Effects
+pub mod EffectLaws
+pub mod Fine
+pub mod Forms
+pub mod LawProofs
 mod Examples

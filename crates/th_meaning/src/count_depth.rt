@@ -158,9 +158,7 @@ fn depth_of_else(rest: &CoreElse) -> u64
             CoreElse::NoElse => return greatest,
             CoreElse::Else(body) => return greatest.max(depth_of_body(body)),
             CoreElse::Elseif(test, body, next) => {
-                greatest = greatest
-                    .max(depth_of_expr(test))
-                    .max(depth_of_body(body));
+                greatest = greatest.max(depth_of_expr(test)).max(depth_of_body(body));
                 rest = next;
             }
         }

@@ -6,6 +6,7 @@ mod count_locals;
 mod count_nodes;
 mod declared;
 mod expr;
+mod laws;
 mod stmt;
 mod types;
 
@@ -17,6 +18,8 @@ pub use declared::{
     CoreRoutineDecl, CoreTypeDecl, CoreUnit, UnitKind,
 };
 pub use expr::{ArithOp, CompareOp, CoreCall, CoreCast, CoreExpr, CoreExprList};
-
+pub use laws::{boundless_law, more_turns_law};
 pub use stmt::{CoreBody, CoreElse, CoreStmt, CoreVariable, CoreWhenList};
-pub use types::{CoreClause, CoreMethodSig, CoreSig, CoreSupply, CoreType, CoreTypeList, Primitive};
+pub use types::{
+    CoreClause, CoreMethodSig, CoreSig, CoreSupply, CoreType, CoreTypeList, Primitive,
+};
