@@ -7,3 +7,4 @@ pub mod Meaning
 pub mod Run
 pub mod View
 pub mod Laws
+pub mod Onto
