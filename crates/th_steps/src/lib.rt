@@ -1,0 +1,6 @@
+//! What programs do, step by step.
+#![tactic(auto)]
+
+
+
+
