@@ -18,7 +18,7 @@ pub record UnitsTo (p : Program) (units : Units) : Type 0 where
   pub by : (unit : List ℕ) (receiver : Option ℕ) (args : List Value) (body : Body) (lp : Loop) (k : Rest) (homes : List Frame) (w : World Value) → Visits p body lp
       → Goes p (enter_at (unit_named p unit) receiver args lp k homes w) (units unit receiver args body homes w) (hw lp k) (exc lp k)
 
-no_visits : {p : Program} → Visits p no_body no_loop
+pub no_visits : {p : Program} → Visits p no_body no_loop
 no_visits = record { by = λ v k. record { goes = λ st. here } }
 
 back_to : (p : Program) (u : Use) (lp lp1 : Loop) (k : Rest) (st : State) (c : Machine) (o : Outcome How) → Goes p c o (hw lp1 (then_back u st.frame st.homes lp k)) (exc lp1 (then_back u st.frame st.homes lp k))
@@ -132,3 +132,105 @@ module _ {p : Program} {units : Units} (units_to : UnitsTo p units) where
     aim_to (super_call class method args) u lp k = to_self (λ n. args_to (the_super class method n) u lp k (all_to args [] (call_of (the_super class method n) u) lp k))
     aim_to (where_call clause method e args) u lp k = to_then (eval_to e lp (then_args (by_where method) args u k)) (λ x v st. refl) (λ v. to_step (λ st. refl) (args_to (the_where method v) u lp k (all_to args [] (call_of (the_where method v) u) lp k)))
     aim_to (init_call class types supplies args) u lp k = to_self (λ n. args_to (the_init class n) u lp k (all_to args [] (call_of (the_init class n) u) lp k))
+
+again_to : {p : Program} {e : ExprTree} {b : BodyTree} {lp : Loop} {k : Rest} {again : State → Outcome How} → To p (At (now_eval e) lp (then_while e b k)) again (hw lp k) (exc lp k)
+    → (how : How) → To p (hw lp (then_again e b k) how) (again_of again how) (hw lp k) (exc lp k)
+again_to h Done = to_step (λ st. refl) h
+again_to h Exit = to_step (λ st. refl) (to_gives Done)
+again_to h (Return v) = to_step (λ st. refl) (to_gives (Return v))
+again_to h (Cut l) = to_step (λ st. refl) (to_gives (Cut l))
+
+done_to : {p : Program} {rest : BodyTree} {lp : Loop} {k : Rest} {f : State → Outcome How} → To p (At (now_body rest) lp k) f (hw lp k) (exc lp k)
+    → (how : How) → To p (hw lp (then_stmts rest k) how) (λ st. if_done how st (f st)) (hw lp k) (exc lp k)
+done_to h Done = to_step (λ st. refl) h
+done_to h Exit = to_step (λ st. refl) (to_gives Exit)
+done_to h (Return v) = to_step (λ st. refl) (to_gives (Return v))
+done_to h (Cut l) = to_step (λ st. refl) (to_gives (Cut l))
+
+-- a statement that does something with the value of an expression
+sink_to : {p : Program} {c : State → Machine} {f : State → Outcome Value} (s : Sink) (lp : Loop) (k : Rest) → To p c f (val lp (then_sink s k)) (exc lp (then_sink s k)) → To p c (λ st. then_do (f st) (sink_of s)) (hw lp k) (exc lp k)
+sink_to s lp k h = to_then h (λ x v st. refl) (λ v. to_step (λ st. refl) (to_how (sink_of s v) lp k))
+
+-- a test
+if_to : {p : Program} {c : State → Machine} {f : State → Outcome Value} {g g1 : State → Outcome How} (b : BodyTree) (r : ElseTree) (lp : Loop) (k : Rest) → To p c f (val lp (then_if b r k)) (exc lp (then_if b r k))
+    → To p (At (now_body b) lp k) g (hw lp k) (exc lp k) → To p (At (now_else r) lp k) g1 (hw lp k) (exc lp k) → To p c (λ st. then_do (f st) (if_of g g1)) (hw lp k) (exc lp k)
+if_to b r lp k h i j = to_then h (λ x v st. refl) (λ v. to_step (λ st. refl) (to_truth v i j))
+
+deep_to : {A : Type 0} {p : Program} {c : State → Machine} {good : A → State → Machine} {bad : List ℕ → Option Value → State → Machine} → To p c (λ st. Halts Deep st.world) good bad
+deep_to = record { goes = λ st. tt }
+
+-- a `while`
+while_to : {p : Program} (e : ExprTree) (b : BodyTree) (lp : Loop) (k : Rest) (test : State → Outcome Value) (body : State → Outcome How) → To p (At (now_eval e) lp (then_while e b k)) test (val lp (then_while e b k)) (exc lp (then_while e b k))
+    → To p (At (now_body b) lp (then_again e b k)) body (hw lp (then_again e b k)) (exc lp (then_again e b k)) → (j : ℕ) → To p (At (now_eval e) lp (then_while e b k)) (loops j test body) (hw lp k) (exc lp k)
+while_to e b lp k test body t h zero = deep_to
+while_to {p = p} e b lp k test body t h (suc j) = to_then t (λ x v st. refl) (λ v. to_step (λ st. refl)
+    (to_truth v (to_seq (to_some (λ st. act (spend 1 st.world) st) lp k (λ _. At (now_body b) lp (then_again e b k))) (λ _. to_then h (λ x v st. refl) (again_to (while_to e b lp k test body t h j)))) (to_gives Done)))
+
+-- the loop of a `for` does its body
+for_visits : {p : Program} (x : ℕ) (b : BodyTree) (outer : Loop) (f : State → Outcome How) → ((k : Rest) → To p (At (now_body b) outer k) f (hw outer k) (exc outer k)) → Visits p (λ v st. f (set_local x v st)) (a_loop x b outer)
+for_visits {p = p} x b outer f h = record {
+  by = λ v k. record {
+    goes = λ st. yielded_to p (a_loop x b outer) outer k st (At (now_body b) outer (then_resume st.frame (a_loop x b outer) k) (set_local x v (at_home st))) (f (set_local x v (at_home st)))
+        ((h (then_resume st.frame (a_loop x b outer) k)).goes (set_local x v (at_home st)));
+  };
+}
+
+module _ {p : Program} {units : Units} (units_to : UnitsTo p units) (n : ℕ) where
+  mutual
+    exec_to : (s : StmtTree) (body : Body) (lp : Loop) (k : Rest) → Visits p body lp → To p (At (now_exec s) lp k) (exec p units n s body) (hw lp k) (exc lp k)
+    exec_to (var_stmt x e) body lp k vis = to_step (λ st. refl) (sink_to (to_local x.local) lp k (eval_to units_to e lp (then_sink (to_local x.local) k)))
+    exec_to (set_local_stmt x e) body lp k vis = to_step (λ st. refl) (sink_to (to_local x) lp k (eval_to units_to e lp (then_sink (to_local x) k)))
+    exec_to (set_field_stmt class f e) body lp k vis = to_step (λ st. refl) (sink_to (to_field class f) lp k (eval_to units_to e lp (then_sink (to_field class f) k)))
+    exec_to (set_element_stmt a i e) body lp k vis = to_step (λ st. refl) (to_then (eval_to units_to a lp (then_index i e k)) (λ x v st. refl)
+        (λ x. to_step (λ st. refl) (to_then (eval_to units_to i lp (then_value x e k)) (λ y v st. refl) (λ y. to_step (λ st. refl) (sink_to (to_element x y) lp k (eval_to units_to e lp (then_sink (to_element x y) k)))))))
+    exec_to (call_stmt c) body lp k vis = to_step (λ st. refl) (to_seq (aim_to units_to c (a_use as_stmt) lp k) (λ t. drop_to units_to t lp k))
+    exec_to (drop_stmt c) body lp k vis = to_step (λ st. refl) (to_seq (aim_to units_to c (a_use as_stmt) lp k) (λ t. drop_to units_to t lp k))
+    exec_to (if_stmt e b r) body lp k vis = to_step (λ st. refl) (if_to b r lp k (eval_to units_to e lp (then_if b r k)) (body_to b body lp k vis) (else_to r body lp k vis))
+    exec_to (while_stmt e b) body lp k vis = to_step (λ st. refl) (while_to e b lp k (eval p units e) (exec_body p units n b body) (eval_to units_to e lp (then_while e b k)) (body_to b body lp (then_again e b k) vis) n)
+    exec_to (for_stmt x cast c b) body lp k vis = to_step (λ st. refl) (to_seq (aim_to units_to c (a_for x.local b) lp k)
+        (λ t. looped_to units_to x.local b (λ v st. exec_body p units n b body (set_local x.local v st)) lp (for_visits x.local b lp (exec_body p units n b body) (λ k1. body_to b body lp k1 vis)) t k))
+    exec_to break_stmt body lp k vis = to_step (λ st. refl) (to_gives Exit)
+    exec_to return_stmt body lp k vis = to_step (λ st. refl) (to_gives (Return None))
+    exec_to (return_value_stmt e) body lp k vis = to_step (λ st. refl) (sink_to to_return lp k (eval_to units_to e lp (then_sink to_return k)))
+    exec_to (yield_stmt e) body lp k vis = to_step (λ st. refl) (to_then (eval_to units_to e lp (then_yield k)) (λ x v st. refl)
+        (λ v. to_step (λ st. refl) (to_seq (to_some (λ st. act (open_yield st.world) st) lp k (λ _. visit lp v lp k)) (λ _. vis.by v k))))
+    exec_to (raise_stmt x) body lp k vis = to_step (λ st. refl) (to_raises x None)
+    exec_to (raise_value_stmt x e) body lp k vis = to_step (λ st. refl) (sink_to (to_raise x) lp k (eval_to units_to e lp (then_sink (to_raise x) k)))
+    exec_to (begin_stmt b ws) body lp k vis = to_step (λ st. refl) (to_catch (body_to b body lp (then_caught ws k) vis) (λ x v. handle_to ws x v body lp k vis))
+    exec_to (put_byte_stmt e) body lp k vis = to_step (λ st. refl) (sink_to to_put_byte lp k (eval_to units_to e lp (then_sink to_put_byte k)))
+    exec_to (put_int_stmt e) body lp k vis = to_step (λ st. refl) (sink_to to_put_int lp k (eval_to units_to e lp (then_sink to_put_int k)))
+    exec_to (put_text_stmt e) body lp k vis = to_step (λ st. refl) (sink_to to_put_text lp k (eval_to units_to e lp (then_sink to_put_text k)))
+
+    pub body_to : (b : BodyTree) (body : Body) (lp : Loop) (k : Rest) → Visits p body lp → To p (At (now_body b) lp k) (exec_body p units n b body) (hw lp k) (exc lp k)
+    body_to no_stmt body lp k vis = to_step (λ st. refl) (to_gives Done)
+    body_to (more_stmts s rest) body lp k vis = to_step (λ st. refl) (to_then (exec_to s body lp (then_stmts rest k) vis) (λ x v st. refl) (done_to (body_to rest body lp k vis)))
+
+    else_to : (r : ElseTree) (body : Body) (lp : Loop) (k : Rest) → Visits p body lp → To p (At (now_else r) lp k) (exec_else p units n r body) (hw lp k) (exc lp k)
+    else_to no_else body lp k vis = to_step (λ st. refl) (to_gives Done)
+    else_to (else_do b) body lp k vis = to_step (λ st. refl) (body_to b body lp k vis)
+    else_to (elseif_then e b r) body lp k vis = to_step (λ st. refl) (if_to b r lp k (eval_to units_to e lp (then_if b r k)) (body_to b body lp k vis) (else_to r body lp k vis))
+
+    handle_to : (ws : WhenTrees) (x : List ℕ) (v : Option Value) (body : Body) (lp : Loop) (k : Rest) → Visits p body lp → To p (At (now_handle ws x v) lp k) (handle p units n ws x v body) (hw lp k) (exc lp k)
+    handle_to no_when x v body lp k vis = to_step (λ st. refl) (to_raises x v)
+    handle_to (more_whens y variable b rest) x v body lp k vis = to_step (λ st. refl)
+        (to_choice (bytes_eq x y) (to_map (bind_argument variable v) (body_to b body lp k vis)) (handle_to rest x v body lp k vis))
+
+-- a unit's statements, and then its room is given back
+closing_to : {p : Program} {c : State → Machine} {f : State → Outcome How} (weight : ℕ) (lp : Loop) (k : Rest) → To p c f (hw lp (then_close weight k)) (exc lp (then_close weight k)) → To p c (λ st. closed weight (f st)) (hw lp k) (exc lp k)
+closing_to {p = p} {c = c} {f = f} weight lp k h = record { goes = λ st. closed_to p weight lp k (c st) (f st) (h.goes st) }
+
+-- a unit is entered and run
+entered_to : {p : Program} {units : Units} → UnitsTo p units → (n : ℕ) (u : Option ProgramUnit) (receiver : Option ℕ) (args : List Value) (body : Body) (lp : Loop) (k : Rest) (homes : List Frame) (w : World Value) → Visits p body lp
+    → Goes p (enter_at u receiver args lp k homes w) (run_unit u receiver args homes w (λ b st. exec_body p units n b body st)) (hw lp k) (exc lp k)
+entered_to units_to n None receiver args body lp k homes w vis = here
+entered_to {p = p} {units = units} units_to n (Some u) receiver args body lp k homes w vis =
+    let entry : To p (λ st. on_some (act (enter (call_weight u) u.name st.world) st) lp k (λ _ st1. At (now_body u.body) lp (then_close (call_weight u) k) st1))
+    (λ st. then_do (act (enter (call_weight u) u.name st.world) st) (λ _ st1. closed (call_weight u) (exec_body p units n u.body body st1))) (hw lp k) (exc lp k) =
+    to_seq (to_some (λ st. act (enter (call_weight u) u.name st.world) st) lp k (λ _ st1. At (now_body u.body) lp (then_close (call_weight u) k) st1))
+    (λ _. closing_to (call_weight u) lp k (body_to units_to n u.body body lp (then_close (call_weight u) k) vis)) in
+    entry.goes (record { frame = frame_of u receiver args; homes = homes; world = w })
+
+-- the machine does units with at most n calls open within one another
+pub level_to : (p : Program) (n : ℕ) → UnitsTo p (level p n)
+level_to p zero = record { by = λ unit receiver args body lp k homes w vis. tt }
+level_to p (suc n) = record { by = λ unit receiver args body lp k homes w vis. entered_to (level_to p n) (suc n) (unit_named p unit) receiver args body lp k homes w vis }
