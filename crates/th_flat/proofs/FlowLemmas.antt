@@ -1,7 +1,7 @@
 -- What is learned of the heights of a unit's stack.
 use Rattle.std.proofs.Common.{◌≡◌, ◌≢◌, ◌⊎◌, ℕ, zero, suc, ◌+◌, ◌-◌, ◌<◌, ◌≤◌, List, [], ◌∷◌, ◌++◌, length, Option, Some, None, Bool, true, false, nat_eq, take, refl, sym, ap, ◌∙◌, subst, ⊎_elim, inl, inr, arith, length-append}
 use Rattle.std.specs.Prelude.{slice_get, slice_set, slice_index_or, option_map, Contains, replicate, IfSome, if◌then◌else◌}
-use Rattle.std.proofs.lemmas.Bool.{cases_Bool, cases_eq}
+use Rattle.std.proofs.lemmas.Bool.{cases_eq}
 use Rattle.std.proofs.lemmas.List.{length-set, length-replicate}
 use Rattle.std.proofs.lemmas.List.Elements.{Contains-push, Contains-push_cases, Contains-append_left}
 use Rattle.std.proofs.lemmas.Option.{slice_get-get_or, slice_get_within}
@@ -59,6 +59,7 @@ module _ (hs : List (Option ℕ)) (ps : List Arrival) (p h : ℕ) (new : slice_g
     where
       here : q ≡ p → Knows (slice_set hs p (Some h)) q k
       here same = let f : slice_get hs p ≡ Some (Some k) = subst (λ x. slice_get hs x ≡ Some (Some k)) same e in absurd (cc)
+
       there : q ≢ p → Knows (slice_set hs p (Some h)) q k
       there ne = other_place hs p q (Some h) ne ∙ e
 
@@ -70,6 +71,7 @@ module _ (hs : List (Option ℕ)) (ps : List Arrival) (p h : ℕ) (new : slice_g
     where
       here : q ≡ p → Knows hs q k ⊎ ((q ≡ p) × (k ≡ h))
       here same = let f : Knows (slice_set hs p (Some h)) p k = subst (λ x. Knows (slice_set hs p (Some h)) x k) same e in let g : k ≡ h = cc known_here in inr (same, g)
+
       there : q ≢ p → Knows hs q k ⊎ ((q ≡ p) × (k ≡ h))
       there ne = inl (sym (other_place hs p q (Some h) ne) ∙ e)
 
@@ -79,12 +81,13 @@ module _ (hs : List (Option ℕ)) (ps : List Arrival) (p h : ℕ) (new : slice_g
     fresh = λ q k e. fresh q k (known_before q k e);
     known = λ a m. known a (Contains-push_cases ps (record { place = p; height = h }) a m);
     still = λ a m. Contains-append_left ps (record { place = p; height = h } ∷ []) a m;
-    count = omega (arith, unknown-set hs p h new, length-append ps (record { place = p; height = h } ∷ []))
-    }
+    count = omega (arith, unknown-set hs p h new, length-append ps (record { place = p; height = h } ∷ []));
+  }
     where
       fresh : (q k : ℕ) → Knows hs q k ⊎ ((q ≡ p) × (k ≡ h)) → Knows hs q k ⊎ Contains (ps ++ record { place = p; height = h } ∷ []) (record { place = q; height = k })
       fresh q k (inl e) = inl e
       fresh q k (inr (same, alike)) = inr (subst (λ a. Contains (ps ++ record { place = p; height = h } ∷ []) a) (record_eq p h q k (sym same) (sym alike)) (Contains-push ps (record { place = p; height = h })))
+
       known : (a : Arrival) → Contains ps a ⊎ (record { place = p; height = h } ≡ a) → Contains ps a ⊎ Knows (slice_set hs p (Some h)) a.place a.height
       known a (inl m) = inl m
       known a (inr e) = inr (subst (λ b. Knows (slice_set hs p (Some h)) b.place b.height) e known_here)
@@ -93,12 +96,13 @@ module _ (hs : List (Option ℕ)) (ps : List Arrival) (p h : ℕ) (new : slice_g
   learned_sound u sound r less = record {
     size = length-set hs p (Some h) ∙ sound.size;
     reached = λ q k e. reached q k (known_before q k e);
-    deep = λ q k e. deep q k (known_before q k e)
-    }
+    deep = λ q k e. deep q k (known_before q k e);
+  }
     where
       reached : (q k : ℕ) → Knows hs q k ⊎ ((q ≡ p) × (k ≡ h)) → Reached u q k
       reached q k (inl e) = sound.reached q k e
       reached q k (inr (same, alike)) = subst (λ x. Reached u x k) (sym same) (subst (λ x. Reached u p x) (sym alike) r)
+
       deep : (q k : ℕ) → Knows hs q k ⊎ ((q ≡ p) × (k ≡ h)) → k ≤ u.depth
       deep q k (inl e) = sound.deep q k e
       deep q k (inr (same, alike)) = omega arith
@@ -114,8 +118,8 @@ Grows_trans hs hs1 hs2 ps ps1 ps2 f g = record {
   fresh = λ q k e. fresh q k (g.fresh q k e);
   known = λ a m. known a (g.known a m);
   still = λ a m. g.still a (f.still a m);
-  count = g.count ∙ f.count
-  }
+  count = g.count ∙ f.count;
+}
   where
     fresh : (q k : ℕ) → Knows hs1 q k ⊎ Contains ps2 (record { place = q; height = k }) → Knows hs q k ⊎ Contains ps2 (record { place = q; height = k })
     fresh q k (inr m) = inr m
@@ -124,6 +128,7 @@ Grows_trans hs hs1 hs2 ps ps1 ps2 f g = record {
         fresh1 : Knows hs q k ⊎ Contains ps1 (record { place = q; height = k }) → Knows hs q k ⊎ Contains ps2 (record { place = q; height = k })
         fresh1 (inl e1) = inl e1
         fresh1 (inr m) = inr (g.still _ m)
+
     known : (a : Arrival) → Contains ps1 a ⊎ Knows hs2 a.place a.height → Contains ps a ⊎ Knows hs2 a.place a.height
     known a (inr e) = inr e
     known a (inl m) = known1 (f.known a m)
@@ -181,8 +186,8 @@ module _ (u : FlatUnit) (p h : ℕ) (s : Shape) (is : option_map shape_of (slice
   pub settled : (hs : List (Option ℕ)) (next : Option ℕ) → next ≡ (if s.next then Some (p + 1) else None) → IfSome next (λ q. Knows hs q (h - s.takes + s.gives)) → IfSome s.way (λ q. Knows hs q (h - s.takes)) → IfSome s.failure (λ q. Knows hs q 0) → IsSettled u hs p h
   settled hs next from on goes fails = record {
     enough = λ op e. subst (λ x. x.takes ≤ h) (sym (shape_is (slice_get u.ops p) op s is e)) enough;
-    leads = λ op q k e way. leads q k (subst (λ x. Leads x p h q k) (shape_is (slice_get u.ops p) op s is e) way)
-    }
+    leads = λ op q k e way. leads q k (subst (λ x. Leads x p h q k) (shape_is (slice_get u.ops p) op s is e) way);
+  }
     where
       leads : (q k : ℕ) → Leads s p h q k → Knows hs q k
       leads q k (On e) = subst (λ b. IfSome (if b then Some (p + 1) else None) (λ x. Knows hs x (h - s.takes + s.gives))) e (subst (λ o. IfSome o (λ x. Knows hs x (h - s.takes + s.gives))) from on)
@@ -212,16 +217,16 @@ pub start_sound : (u : FlatUnit) (hs : List (Option ℕ)) (n : ℕ) → hs ≡ r
 start_sound u hs n is size = record {
   size = ap length is ∙ (length-replicate n None ∙ size);
   reached = λ p h e. absurd (nothing_known n p h (subst (λ l. Knows l p h) is e));
-  deep = λ p h e. absurd (nothing_known n p h (subst (λ l. Knows l p h) is e))
-  }
+  deep = λ p h e. absurd (nothing_known n p h (subst (λ l. Knows l p h) is e));
+}
 
 -- after the arrival at the start
 pub start_on_way : (u : FlatUnit) (hs hs' : List (Option ℕ)) (ps ps' : List Arrival) (n : ℕ) → hs ≡ replicate n None → ps ≡ [] → IsSound u hs' → Grows hs ps hs' ps' → IsOnWay u hs' ps'
 start_on_way u hs hs' ps ps' n is none sound g = record {
   sound = sound;
   known = λ a m. known a (g.known a m);
-  settled = λ p h e. open_at p h (g.fresh p h e)
-  }
+  settled = λ p h e. open_at p h (g.fresh p h e);
+}
   where
     known : (a : Arrival) → Contains ps a ⊎ Knows hs' a.place a.height → Knows hs' a.place a.height
     known a (inr e) = e
@@ -229,6 +234,7 @@ start_on_way u hs hs' ps ps' n is none sound g = record {
       where
         nothing_in : (a1 : Arrival) → Contains [] a1 → ⊥
         nothing_in a1 (k, less, e) = omega arith
+
     open_at : (p h : ℕ) → Knows hs p h ⊎ Contains ps' (record { place = p; height = h }) → Contains ps' (record { place = p; height = h }) ⊎ IsSettled u hs' p h
     open_at p h (inr m) = inl m
     open_at p h (inl e) = absurd (nothing_known n p h (subst (λ l. Knows l p h) is e))
@@ -238,20 +244,24 @@ pub step_on_way : (u : FlatUnit) (hs hs' : List (Option ℕ)) (all ps ps' : List
 step_on_way u hs hs' all ps ps' at on split sound g here = record {
   sound = sound;
   known = λ a m. known a (g.known a m);
-  settled = λ p h e. fresh p h (g.fresh p h e)
-  }
+  settled = λ p h e. fresh p h (g.fresh p h e);
+}
   where
     known : (a : Arrival) → Contains ps a ⊎ Knows hs' a.place a.height → Knows hs' a.place a.height
     known a (inr e) = e
     known a (inl m) = g.kept _ _ (on.known a (subst (λ l. Contains l a) (sym split) (Contains-append_left ps (at ∷ []) a m)))
+
     later : (p h : ℕ) → IsSettled u hs p h → IsSettled u hs' p h
     later p h s = record { enough = s.enough; leads = λ op q k e way. g.kept q k (s.leads op q k e way) }
+
     cases : (p h : ℕ) → Contains ps (record { place = p; height = h }) ⊎ (at ≡ record { place = p; height = h }) → Contains ps' (record { place = p; height = h }) ⊎ IsSettled u hs' p h
     cases p h (inl m) = inl (g.still _ m)
     cases p h (inr e) = inr (subst (λ a. IsSettled u hs' a.place a.height) e here)
+
     before : (p h : ℕ) → Contains all (record { place = p; height = h }) ⊎ IsSettled u hs p h → Contains ps' (record { place = p; height = h }) ⊎ IsSettled u hs' p h
     before p h (inr s) = inr (later p h s)
     before p h (inl m) = cases p h (Contains-push_cases ps at (record_of p h) (subst (λ l. Contains l (record_of p h)) split m))
+
     fresh : (p h : ℕ) → Knows hs p h ⊎ Contains ps' (record { place = p; height = h }) → Contains ps' (record { place = p; height = h }) ⊎ IsSettled u hs' p h
     fresh p h (inr m) = inl m
     fresh p h (inl e) = before p h (on.settled p h e)
@@ -267,6 +277,7 @@ module _ (u : FlatUnit) (hs : List (Option ℕ)) (ps : List Arrival) (on : IsOnW
     where
       nothing_in : (a : Arrival) → Contains [] a → ⊥
       nothing_in a (k, less, e1) = omega arith
+
       go : Contains ps (record { place = p; height = h }) ⊎ IsSettled u hs p h → IsSettled u hs p h
       go (inr s) = s
       go (inl m) = absurd (nothing_in (record_of p h) (subst (λ l. Contains l (record_of p h)) none m))
@@ -280,8 +291,8 @@ module _ (u : FlatUnit) (hs : List (Option ℕ)) (ps : List Arrival) (on : IsOnW
     inside = λ p h r. let e : Knows hs p h = all_known p h r in let less : p < length hs = slice_get_within hs p (Some h) e in let same : length hs ≡ length u.ops = on.sound.size in omega arith;
     deep = λ p h r. on.sound.deep p h (all_known p h r);
     enough = λ p h op r e. (all_settled p h (all_known p h r)).enough op e;
-    one = λ p h k r s. same_height p h k (all_known p h r) (all_known p k s)
-    }
+    one = λ p h k r s. same_height p h k (all_known p h r) (all_known p k s);
+  }
     where
       same_height : (p h k : ℕ) → Knows hs p h → Knows hs p k → h ≡ k
       same_height p h k a b = cc

@@ -1,5 +1,5 @@
 -- What each operation does to the height of the stack, where it leads, and on which levels it stands.
-use Rattle.std.specs.Prelude.{ℕ, ◌+◌, Bool, true, false, Option, Some, None, nat_eq, if◌then◌else◌}
+use Rattle.std.specs.Prelude.{ℕ, ◌+◌, Bool, true, false, Some, None, nat_eq, if◌then◌else◌}
 use Rattle.th_flat.specs.declared.op.FlatOp.{FlatOp}
 use Rattle.th_flat.specs.declared.op.FlatOp.TheVariants.{OpWord, OpLocal, OpSet, OpDrop, OpArith, OpCompare, OpSame, OpGo, OpUnless, OpCast, OpOwn, OpField, OpSetfield, OpCall, OpDispatch, OpHidden, OpSupply, OpNew, OpArray, OpAt, OpSetat, OpLength, OpPutbyte, OpPutint, OpGet, OpUnitword, OpRaise, OpIs, OpCaught, OpReturn, OpLeave, OpBody, OpYield, OpStop, OpStopped, OpTurn, OpText, OpAppend, OpLetter, OpExtent, OpPuttext, OpBlock, OpHandle, OpOver, OpNext, OpResume}
 use Rattle.th_flat.specs.declared.shape.Shape.{Shape}
@@ -20,6 +20,14 @@ branching takes l = record { takes = takes; gives = 0; next = true; way = Some l
 abbrev pub ending : ℕ → Shape
 ending takes = record { takes = takes; gives = 0; next = false; way = None; failure = None }
 
+-- goes to a label
+abbrev pub going : ℕ → Shape
+going l = record { takes = 0; gives = 0; next = false; way = Some l; failure = None }
+
+-- goes to a label with an empty stack
+abbrev pub raising : ℕ → ℕ → Shape
+raising takes l = record { takes = takes; gives = 0; next = false; way = None; failure = Some l }
+
 -- how many operands an arithmetic operation has: the opposite has one
 abbrev pub operands_of : ℕ → ℕ
 operands_of g = if nat_eq g 5 then 1 else 2
@@ -34,7 +42,7 @@ shape_of OpDrop = straight 1 0
 shape_of (OpArith g l) = failing (operands_of g) 1 l
 shape_of (OpCompare g) = straight 2 1
 shape_of OpSame = straight 2 1
-shape_of (OpGo l) = record { takes = 0; gives = 0; next = false; way = Some l; failure = None }
+shape_of (OpGo l) = going l
 shape_of (OpUnless l) = branching 1 l
 shape_of (OpCast from to) = straight 1 1
 shape_of (OpOwn class) = straight 0 1
@@ -53,7 +61,7 @@ shape_of (OpPutbyte l) = failing 1 0 l
 shape_of OpPutint = straight 1 0
 shape_of (OpGet l) = failing 0 1 l
 shape_of (OpUnitword unit) = straight 0 1
-shape_of (OpRaise name f l) = record { takes = f; gives = 0; next = false; way = None; failure = Some l }
+shape_of (OpRaise name f l) = raising f l
 shape_of (OpIs name l) = branching 0 l
 shape_of (OpCaught f) = straight 0 f
 shape_of (OpReturn f) = ending f

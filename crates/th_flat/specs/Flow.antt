@@ -1,10 +1,10 @@
 -- What is known of the heights of a unit's stack while its ways are followed.
-use Rattle.std.specs.Prelude.{◌≡◌, ℕ, ◌+◌, ◌≤◌, ◌⊎◌, Bool, true, false, List, length, slice_get, Option, Some, None, Contains, zero, suc, [], ◌∷◌}
+use Rattle.std.specs.Prelude.{◌≡◌, ℕ, ◌+◌, ◌≤◌, ◌⊎◌, List, length, slice_get, Option, Some, None, Contains, suc, [], ◌∷◌}
 use Rattle.th_flat.specs.declared.op.FlatOp.{FlatOp}
 use Rattle.th_flat.specs.declared.module.FlatUnit.{FlatUnit}
 use Rattle.th_flat.specs.declared.flow.Arrival.{Arrival}
 use Rattle.th_flat.specs.Effects.{shape_of}
-use Rattle.th_flat.specs.WellFormed.{Reached, Leads, HasHeights}
+use Rattle.th_flat.specs.WellFormed.{Reached, Leads}
 
 -- place p is known to have height h
 abbrev pub Knows : List (Option ℕ) → ℕ → ℕ → Type 0

@@ -1,5 +1,5 @@
 -- Heights of the stack over all ways through a unit of level 3, and well-formed units.
-use Rattle.std.specs.Prelude.{◌≡◌, ℕ, ◌+◌, ◌-◌, ◌<◌, ◌≤◌, Bool, true, IsTrue, ◌&&◌, List, length, slice_get, Option, Some, None, nat_eq, nat_lt, nat_le, if◌then◌else◌}
+use Rattle.std.specs.Prelude.{◌≡◌, ℕ, ◌+◌, ◌-◌, ◌<◌, ◌≤◌, Bool, true, IsTrue, ◌&&◌, List, length, slice_get, Some, nat_eq, nat_lt, nat_le, if◌then◌else◌}
 use Rattle.std.specs.List.{list_all}
 use Rattle.th_flat.specs.declared.op.FlatOp.{FlatOp}
 use Rattle.th_flat.specs.declared.op.FlatOp.TheVariants.{OpLocal, OpSet, OpArith, OpCompare, OpGo, OpUnless, OpCall, OpDispatch, OpHidden, OpSupply, OpArray, OpAt, OpSetat, OpPutbyte, OpGet, OpRaise, OpIs, OpCaught, OpReturn, OpYield, OpStopped, OpAppend, OpLetter, OpBlock, OpHandle, OpOver}
@@ -82,3 +82,9 @@ pub record KeepsLimits (u : FlatUnit) : Type 0 where
 pub record WellFormed (u : FlatUnit) : Type 0 where
   pub limits : KeepsLimits u
   pub heights : HasHeights u
+
+-- one number for each operation: the height of the stack there over all ways, and 0 where no way comes
+pub record AreHeights (u : FlatUnit) (heights : List ℕ) : Type 0 where
+  pub size : length heights ≡ length u.ops
+  pub reached : (p h : ℕ) → Reached u p h → slice_get heights p ≡ Some h
+  pub unreached : (p : ℕ) → p < length u.ops → ((h : ℕ) → Reached u p h → ⊥) → slice_get heights p ≡ Some 0

@@ -44,12 +44,8 @@ impl Flow {
     /// The height at a place is known from now on, and is to be followed.
     fn learn(&mut self, place: usize, height: usize) -> Result<(), AllocError>
         requires { place < length self.old.heights.items }
-        ensures heights {
-            OnOk result (self.new.heights.items ≡ slice_set self.old.heights.items place (Some height))
-        }
-        ensures pending {
-            OnOk result (self.new.pending.items ≡ self.old.pending.items ++ record { place = place; height = height } ∷ [])
-        }
+        ensures heights { OnOk result (self.new.heights.items ≡ slice_set self.old.heights.items place (Some height)) }
+        ensures pending { OnOk result (self.new.pending.items ≡ self.old.pending.items ++ record { place = place; height = height } ∷ []) }
     {
         self.heights[place] = Some(height);
         self.pending.push(Arrival { place, height })?;
@@ -61,9 +57,7 @@ impl Flow {
         requires sound { IsSound unit.now self.old.heights.items }
         requires reached { Reached unit.now place height }
         ensures sound { OnOk result (IsSound unit.now self.new.heights.items) }
-        ensures grows {
-            OnOk result (Grows self.old.heights.items self.old.pending.items self.new.heights.items self.new.pending.items)
-        }
+        ensures grows { OnOk result (Grows self.old.heights.items self.old.pending.items self.new.heights.items self.new.pending.items) }
         ensures right { IfOk result (λ good. good ≡ true → Knows self.new.heights.items place height) }
         ensures wrong { IfOk result (λ good. good ≡ false → HasHeights unit.now → ⊥) }
     {
@@ -90,12 +84,8 @@ impl Flow {
         requires sound { IsSound unit.now self.old.heights.items }
         requires reached { IfSome place (λ p. Reached unit.now p height) }
         ensures sound { OnOk result (IsSound unit.now self.new.heights.items) }
-        ensures grows {
-            OnOk result (Grows self.old.heights.items self.old.pending.items self.new.heights.items self.new.pending.items)
-        }
-        ensures right {
-            IfOk result (λ good. good ≡ true → IfSome place (λ p. Knows self.new.heights.items p height))
-        }
+        ensures grows { OnOk result (Grows self.old.heights.items self.old.pending.items self.new.heights.items self.new.pending.items) }
+        ensures right { IfOk result (λ good. good ≡ true → IfSome place (λ p. Knows self.new.heights.items p height)) }
         ensures wrong { IfOk result (λ good. good ≡ false → HasHeights unit.now → ⊥) }
     {
         match place {
@@ -105,7 +95,12 @@ impl Flow {
     }
 
     /// Follows the ways of an operation of this shape at a place: false where an arrival is wrong.
-    fn follow_ways(&mut self, unit: &FlatUnit, at: Arrival, shape: Shape) -> Result<bool, AllocError>
+    fn follow_ways(
+        &mut self,
+        unit: &FlatUnit,
+        at: Arrival,
+        shape: Shape,
+    ) -> Result<bool, AllocError>
         requires sound { IsSound unit.now self.old.heights.items }
         requires reached { Reached unit.now at.place at.height }
         requires shape { option_map shape_of (slice_get unit.now.ops at.place) ≡ Some shape }
@@ -113,12 +108,8 @@ impl Flow {
         requires place { at.place < usize.MAX }
         requires next { at.height + shape.gives ≤ usize.MAX }
         ensures sound { OnOk result (IsSound unit.now self.new.heights.items) }
-        ensures grows {
-            OnOk result (Grows self.old.heights.items self.old.pending.items self.new.heights.items self.new.pending.items)
-        }
-        ensures right {
-            IfOk result (λ good. good ≡ true → IsSettled unit.now self.new.heights.items at.place at.height)
-        }
+        ensures grows { OnOk result (Grows self.old.heights.items self.old.pending.items self.new.heights.items self.new.pending.items) }
+        ensures right { IfOk result (λ good. good ≡ true → IsSettled unit.now self.new.heights.items at.place at.height) }
         ensures wrong { IfOk result (λ good. good ≡ false → HasHeights unit.now → ⊥) }
     {
         let left = at.height - shape.takes;
@@ -141,12 +132,8 @@ impl Flow {
         requires sound { IsSound unit.now self.old.heights.items }
         requires known { Knows self.old.heights.items at.place at.height }
         ensures sound { OnOk result (IsSound unit.now self.new.heights.items) }
-        ensures grows {
-            OnOk result (Grows self.old.heights.items self.old.pending.items self.new.heights.items self.new.pending.items)
-        }
-        ensures right {
-            IfOk result (λ good. good ≡ true → IsSettled unit.now self.new.heights.items at.place at.height)
-        }
+        ensures grows { OnOk result (Grows self.old.heights.items self.old.pending.items self.new.heights.items self.new.pending.items) }
+        ensures right { IfOk result (λ good. good ≡ true → IsSettled unit.now self.new.heights.items at.place at.height) }
         ensures wrong { IfOk result (λ good. good ≡ false → HasHeights unit.now → ⊥) }
     {
         let ops = unit.ops.as_slice();

@@ -1,6 +1,6 @@
 //! What each operation does to the height of the stack, and where it leads.
 ghost use Rattle.std.specs.Prelude.{◌≡◌, ◌+◌, ◌^◌, ◌<◌, if◌then◌else◌, Some, None};
-ghost use Rattle.th_flat.specs.Effects.{straight, failing, branching, ending, shape_of};
+ghost use Rattle.th_flat.specs.Effects.{straight, failing, branching, ending, going, raising, shape_of};
 
 use crate::op::FlatOp;
 
@@ -71,6 +71,32 @@ impl Shape {
             failure: None,
         }
     }
+
+    /// It goes to a label.
+    fn going(l: usize) -> Shape
+        ensures { result ≡ going l }
+    {
+        Shape {
+            takes: 0,
+            gives: 0,
+            next: false,
+            way: Some(l),
+            failure: None,
+        }
+    }
+
+    /// It goes to a label with an empty stack.
+    fn raising(takes: usize, l: usize) -> Shape
+        ensures { result ≡ raising takes l }
+    {
+        Shape {
+            takes,
+            gives: 0,
+            next: false,
+            way: None,
+            failure: Some(l),
+        }
+    }
 }
 
 /// The place after this one, where an operation goes on to it.
@@ -87,77 +113,44 @@ pub fn shape_of(op: &FlatOp) -> Shape
     ensures small { result.gives < 2 ^ 32 }
 {
     match op {
-        FlatOp::OpWord { w: _ } => Shape::straight(0, 1),
-        FlatOp::OpLocal { k: _ } => Shape::straight(0, 1),
-        FlatOp::OpSet { k: _ } => Shape::straight(1, 0),
-        FlatOp::OpDrop => Shape::straight(1, 0),
-        FlatOp::OpArith { g, l } => Shape::failing(if *g == 5 { 1 } else { 2 }, 1, *l as usize),
-        FlatOp::OpCompare { g: _ } => Shape::straight(2, 1),
-        FlatOp::OpSame => Shape::straight(2, 1),
-        FlatOp::OpGo { l } => Shape {
-            takes: 0,
-            gives: 0,
-            next: false,
-            way: Some(*l as usize),
-            failure: None,
-        },
-        FlatOp::OpUnless { l } => Shape::branching(1, *l as usize),
-        FlatOp::OpCast { from: _, to: _ } => Shape::straight(1, 1),
-        FlatOp::OpOwn { class: _ } => Shape::straight(0, 1),
-        FlatOp::OpField { class: _, k: _ } => Shape::straight(0, 1),
-        FlatOp::OpSetfield { class: _, k: _ } => Shape::straight(1, 0),
-        FlatOp::OpCall { unit: _, n, f, l } => Shape::failing(*n as usize, *f as usize, *l as usize),
-        FlatOp::OpDispatch {
-            head: _,
-            method: _,
-            n,
-            f,
-            l,
-        } => Shape::failing(*n as usize, *f as usize, *l as usize),
-        FlatOp::OpHidden {
-            class: _,
-            method: _,
-            n,
-            f,
-            l,
-        } => Shape::failing(*n as usize, *f as usize, *l as usize),
-        FlatOp::OpSupply { n, f, l } => {
-            Shape::failing(*n as usize + 1, *f as usize, *l as usize)
-        }
-        FlatOp::OpNew { class: _ } => Shape::straight(0, 1),
-        FlatOp::OpArray { l } => Shape::failing(2, 1, *l as usize),
-        FlatOp::OpAt { l } => Shape::failing(2, 1, *l as usize),
-        FlatOp::OpSetat { l } => Shape::failing(3, 0, *l as usize),
-        FlatOp::OpLength => Shape::straight(1, 1),
-        FlatOp::OpPutbyte { l } => Shape::failing(1, 0, *l as usize),
-        FlatOp::OpPutint => Shape::straight(1, 0),
-        FlatOp::OpGet { l } => Shape::failing(0, 1, *l as usize),
-        FlatOp::OpUnitword { unit: _ } => Shape::straight(0, 1),
-        FlatOp::OpRaise { name: _, f, l } => Shape {
-            takes: *f as usize,
-            gives: 0,
-            next: false,
-            way: None,
-            failure: Some(*l as usize),
-        },
-        FlatOp::OpIs { name: _, l } => Shape::branching(0, *l as usize),
+        FlatOp::OpWord { .. }
+        | FlatOp::OpLocal { .. }
+        | FlatOp::OpOwn { .. }
+        | FlatOp::OpField { .. }
+        | FlatOp::OpNew { .. }
+        | FlatOp::OpUnitword { .. }
+        | FlatOp::OpText { .. } => Shape::straight(0, 1),
+        FlatOp::OpSet { .. }
+        | FlatOp::OpDrop
+        | FlatOp::OpSetfield { .. }
+        | FlatOp::OpPutint
+        | FlatOp::OpPuttext
+        | FlatOp::OpResume => Shape::straight(1, 0),
+        FlatOp::OpCast { .. } | FlatOp::OpLength | FlatOp::OpExtent => Shape::straight(1, 1),
+        FlatOp::OpCompare { .. } | FlatOp::OpSame => Shape::straight(2, 1),
+        FlatOp::OpBody { .. } | FlatOp::OpTurn | FlatOp::OpBlock { .. } | FlatOp::OpOver { .. } =>
+            Shape::straight(0, 0),
         FlatOp::OpCaught { f } => Shape::straight(0, *f as usize),
+        FlatOp::OpArith { g, l } => Shape::failing(if *g == 5 { 1 } else { 2 }, 1, *l as usize),
+        FlatOp::OpCall { n, f, l, .. }
+        | FlatOp::OpDispatch { n, f, l, .. }
+        | FlatOp::OpHidden { n, f, l, .. } => {
+            Shape::failing(*n as usize, *f as usize, *l as usize)
+        }
+        FlatOp::OpSupply { n, f, l } => Shape::failing(*n as usize + 1, *f as usize, *l as usize),
+        FlatOp::OpArray { l }
+        | FlatOp::OpAt { l }
+        | FlatOp::OpAppend { l }
+        | FlatOp::OpLetter { l } => Shape::failing(2, 1, *l as usize),
+        FlatOp::OpSetat { l } => Shape::failing(3, 0, *l as usize),
+        FlatOp::OpPutbyte { l } | FlatOp::OpYield { l } => Shape::failing(1, 0, *l as usize),
+        FlatOp::OpGet { l } => Shape::failing(0, 1, *l as usize),
+        FlatOp::OpHandle { f, l, .. } => Shape::failing(0, *f as usize, *l as usize),
+        FlatOp::OpUnless { l } => Shape::branching(1, *l as usize),
+        FlatOp::OpIs { l, .. } | FlatOp::OpStopped { l } => Shape::branching(0, *l as usize),
+        FlatOp::OpGo { l } => Shape::going(*l as usize),
+        FlatOp::OpRaise { f, l, .. } => Shape::raising(*f as usize, *l as usize),
         FlatOp::OpReturn { f } => Shape::ending(*f as usize),
-        FlatOp::OpLeave => Shape::ending(0),
-        FlatOp::OpBody { unit: _ } => Shape::straight(0, 0),
-        FlatOp::OpYield { l } => Shape::failing(1, 0, *l as usize),
-        FlatOp::OpStop => Shape::ending(0),
-        FlatOp::OpStopped { l } => Shape::branching(0, *l as usize),
-        FlatOp::OpTurn => Shape::straight(0, 0),
-        FlatOp::OpText { bytes: _ } => Shape::straight(0, 1),
-        FlatOp::OpAppend { l } => Shape::failing(2, 1, *l as usize),
-        FlatOp::OpLetter { l } => Shape::failing(2, 1, *l as usize),
-        FlatOp::OpExtent => Shape::straight(1, 1),
-        FlatOp::OpPuttext => Shape::straight(1, 0),
-        FlatOp::OpBlock { h: _, e: _ } => Shape::straight(0, 0),
-        FlatOp::OpHandle { name: _, f, l } => Shape::failing(0, *f as usize, *l as usize),
-        FlatOp::OpOver { e: _ } => Shape::straight(0, 0),
-        FlatOp::OpNext => Shape::ending(0),
-        FlatOp::OpResume => Shape::straight(1, 0),
+        FlatOp::OpLeave | FlatOp::OpStop | FlatOp::OpNext => Shape::ending(0),
     }
 }

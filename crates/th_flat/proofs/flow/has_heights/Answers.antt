@@ -1,4 +1,4 @@
-use Rattle.std.proofs.Common.{subst, refl, ap}
+use Rattle.std.proofs.Common.{subst, refl}
 use Rattle.th_flat.specs.Flow.{Knows}
 use Rattle.th_flat.proofs.FlowLemmas.{start_reached, start_on_way, step_on_way, all_found, emptied}
 use Rattle.th_flat.proofs.flow.has_heights.Goals as goal
