@@ -1,2 +1,3 @@
 pub mod FlowLemmas
 mod Examples
+pub mod Tame
