@@ -1,3 +1,4 @@
 pub mod FlowLemmas
 mod Examples
 pub mod Tame
+pub mod Bare

@@ -223,9 +223,14 @@ open_at (Some e) u at h held below w =
     then Run u (at + 1) (Upto (at + 2) (e + 1)) h held below w
     else stuck w
 
+-- whether a loop body has the words of the open call that its home has
+abbrev pub shares_words : (home body : FlatUnit) → Bool
+shares_words home body = not (nat_eq home.kind 6) && is_body body && nat_eq body.args home.args && nat_eq body.locals home.locals && nat_eq body.depth home.depth
+
 -- the next operation is the call of an iterator whose loop body is a unit of its own
 abbrev pub open_body : FlatUnit → FlatUnit → ℕ → Here → (held below : Stack) → FlatWorld → Config
-open_body body u at h held below w = if is_call (slice_get u.ops (at + 1)) then Run u (at + 1) (ByUnit u body) h held below w else stuck w
+open_body body u at h held below w =
+    if is_call (slice_get u.ops (at + 1)) && shares_words u body then Run u (at + 1) (ByUnit u body) h held below w else stuck w
 
 -- a local word is pushed; one that isn't set ends the run
 abbrev pub loaded : Option (Option FlatValue) → FlatUnit → ℕ → Here → (held below : Stack) → FlatWorld → Config
