@@ -217,7 +217,7 @@ module _ (p : FlatProgram) where
   does_comes c w charge comes = record { charge = charge; turns = comes.turns; trace = subst (λ t. Prefix w.trace t) (sym comes.trace) (prefix_refl w.trace); same = comes.same }
 
   -- the entry of a unit
-  abbrev enter_deed : Bool → FlatUnit → List FlatValue → Stack → Deed Config
+  abbrev pub enter_deed : Bool → FlatUnit → List FlatValue → Stack → Deed Config
   enter_deed b u args below =
       if b
       then record { charge = entry_charge u; act = λ w1. Run u 0 NoLoop (record { stack = []; locals = frame (words_of u) args; status = Fine }) Bottom below (entered u w1) }

@@ -2,3 +2,4 @@ pub mod FlowLemmas
 mod Examples
 pub mod Tame
 pub mod Bare
+pub mod Weighing
