@@ -3,3 +3,4 @@ mod Examples
 pub mod Tame
 pub mod Bare
 pub mod Weighing
+pub mod Bridge

@@ -97,6 +97,16 @@ pub record Works (whole : Option ℕ) (x : ℕ) (u : FlatUnit) (held below : Sta
   pub below_fits : BelowFits below
   pub room : RoomIs whole w (x + (weight_of u + room_of held + room_below below))
 
+module _ (p : FlatProgram) where
+  -- the room that a step takes for a call or a yield that it opens
+  abbrev pub opening : Config → ℕ
+  opening (Run u at loop h held below w) = 0
+  opening (Entering u args below w) = need p (Entering u args below w)
+  opening (Visiting v u at ls held below w) = need p (Visiting v u at ls held below w)
+  opening (Returned s v below w) = 0
+  opening (Putting bytes u at h held below w) = 0
+  opening (Over e w) = 0
+
 module _ (whole : Option ℕ) (x : ℕ) where
   good_stuck : (w : FlatWorld) → Good whole x (stuck w)
   good_stuck w = record { fits = tt; balanced = tt }
@@ -246,15 +256,6 @@ module _ (whole : Option ℕ) (x : ℕ) where
     good_back (Some OpResume) s v u at st ls held loop below w k = good_back_by s 0 v None u at st ls held loop below w k
     good_back _ s v u at st ls held loop below w k = good_stuck w
 
-    -- the room that a step takes for a call or a yield that it opens
-    abbrev pub opening : Config → ℕ
-    opening (Run u at loop h held below w) = 0
-    opening (Entering u args below w) = need p (Entering u args below w)
-    opening (Visiting v u at ls held below w) = need p (Visiting v u at ls held below w)
-    opening (Returned s v below w) = 0
-    opening (Putting bytes u at h held below w) = 0
-    opening (Over e w) = 0
-
     room_entered : (b : Bool) (name : List ℕ) (w : FlatWorld) → (if b then note (Entered name) w else w).room ≡ w.room
     room_entered true name w = refl
     room_entered false name w = refl
@@ -271,7 +272,7 @@ module _ (whole : Option ℕ) (x : ℕ) where
         record { fits = (tt, tt, k); balanced = room_same whole w (entered u w) _ (room_entered (nat_lt u.kind 5) u.name w) (room_at whole w _ _ (omega arith) r) }
 
     -- what a step leads to once its charge is taken
-    pub good_deed : (c : Config) (w : FlatWorld) → Fits c → RoomIs whole w (x + (open_room c + opening c)) → Good whole x ((deed p c).act w)
+    pub good_deed : (c : Config) (w : FlatWorld) → Fits c → RoomIs whole w (x + (open_room c + opening p c)) → Good whole x ((deed p c).act w)
     good_deed (Run u at loop h held below w0) w k r = good_op (slice_get u.ops at) u at loop h held below w0 w k.0 (record { held_by = k.1; below_fits = k.2; room = room_at whole w _ _ (omega arith) r })
     good_deed (Entering u args below w0) w k r = good_enter (can_enter u below) u args below w k r
     good_deed (Visiting v u at ls held below w0) w k r = let more : yield_weight ≤ room_of held = k.2 in good_run u at NoLoop _ held below w tt (record { held_by = k.0; below_fits = k.1; room = room_at whole w _ _ (omega arith) r })

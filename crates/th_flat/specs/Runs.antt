@@ -115,3 +115,7 @@ module _ (p : FlatProgram) where
     need = λ g. need g.config;
     used = λ g. g.heap + open_room g.config;
   }
+
+  -- the start of a run whose costs are told apart
+  abbrev pub metered_start : (input : List ℕ) → Metered
+  metered_start input = record { config = begin p.main (start input None 0); heap = 0 }
