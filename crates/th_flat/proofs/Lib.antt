@@ -1,0 +1,6 @@
+pub mod FlowLemmas
+mod Examples
+pub mod Tame
+pub mod Bare
+pub mod Weighing
+pub mod Bridge

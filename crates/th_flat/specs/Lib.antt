@@ -1,0 +1,11 @@
+pub mod Effects
+pub mod WellFormed
+pub mod Flow
+pub mod Values
+pub mod Program
+pub mod Deeds
+pub mod Configs
+pub mod Runs
+pub mod Frames
+pub mod Orderly
+pub mod Pace
