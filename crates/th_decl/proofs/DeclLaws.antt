@@ -1,5 +1,5 @@
 -- Modules and interfaces are read exactly.
-use Rattle.std.proofs.Common.{◌≡◌, ℕ, Bool, true, false, nat_lt, List, [], ◌∷◌, ◌++◌, Option, Some, None, refl}
+use Rattle.std.proofs.Common.{◌≡◌, ℕ, true, false, nat_lt, List, [], ◌∷◌, Some, refl}
 use Rattle.th_tree.specs.declared.tokens.Reserved.TheVariants.{KeyModule, KeyInterface, KeyImplements, KeyUses, KeyType, KeyClass, KeyFor, KeyInherits, KeyWhere, KeyHas, KeyException, KeyRoutine, KeyIter, KeyInit, KeyHidden, KeyField, KeyReturns, KeyYields, KeySignals, KeyEnd, KeySuper}
 use Rattle.th_tree.specs.declared.tokens.Sym.TheVariants.{OpenParen, CloseParen, OpenSquare, CloseSquare, Comma, Semicolon, Becomes, Less}
 use Rattle.th_tree.specs.declared.lexeme.Mark.TheVariants.{Word, Symbol}
@@ -8,16 +8,15 @@ use Rattle.th_tree.specs.Grammar.{Expr, FormAt}
 use Rattle.th_tree.specs.Declarations as grammar
 use Rattle.th_syntax.specs.Read.{code}
 use Rattle.th_syntax.specs.Parse.{read_form}
-use Rattle.th_parse.specs.Parse.{stmt_first}
 use Rattle.th_syntax.proofs.Law.{Law, law_weak, law_done, law_then, law_the}
 use Rattle.th_syntax.proofs.Choice.{law_either}
 use Rattle.th_syntax.proofs.Repeat.{law_many, law_listed}
-use Rattle.th_syntax.proofs.Words.{law_name, law_ref, law_after, law_place, law_between, law_maybe}
+use Rattle.th_syntax.proofs.Words.{law_name, law_ref, law_after, law_between, law_maybe}
 use Rattle.th_syntax.proofs.TypeLaws.{law_type, law_named, type_more}
 use Rattle.th_syntax.proofs.ExprLaws.{law_form, none_form, law_args}
 use Rattle.th_syntax.proofs.TypeLaws.{law_formal}
 use Rattle.th_parse.proofs.StmtLaws.{law_body}
-use Rattle.th_decl.specs.Parse.{uses, params, signals, formals, in_parens, returns, yields, iter_sig, plain_sig, sig, type_formals, clause, clauses, iter_head, routine_head, head, class_head, init_head, hidden_sig, hidden_sigs, interface_class, super_call, field_assign, field_assigns, init, hidden_method, plain_method, method, methods, field, fields, class, supertypes, ended_sig, ended_sigs, type_decl, exception, interface_item, interface_items, interface, routine, module_item, module_items, implements, whole_module}
+use Rattle.th_decl.specs.Parse.{uses, params, signals, formals, in_parens, returns, yields, sig, type_formals, clause, clauses, head, class_head, init_head, interface_class, super_call, field_assign, init, method, field, class, supertypes, type_decl, exception, interface_item, interface, routine, module_item, whole_module}
 
 abbrev signal_more : List ℕ
 signal_more = code (Word KeySignals) ∷ []

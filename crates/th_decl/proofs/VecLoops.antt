@@ -1,5 +1,5 @@
 -- The turns of the code's loops that append to vectors.
-use Rattle.std.proofs.Common.{◌≡◌, ℕ, ◌<◌, ◌+◌, ◌-◌, Bool, true, false, Option, List, [], ◌∷◌, ◌++◌, map, refl, sym, ◌∙◌, subst, ap, append_assoc, append-nil}
+use Rattle.std.proofs.Common.{◌≡◌, ℕ, ◌<◌, ◌+◌, ◌-◌, Bool, true, false, Option, List, [], ◌∷◌, ◌++◌, map, refl, sym, ◌∙◌, ap, append_assoc, append-nil}
 use Rattle.th_tree.specs.declared.tokens.Sym.TheVariants.{Comma}
 use Rattle.th_tree.specs.declared.lexeme.Mark.{Mark}
 use Rattle.th_tree.specs.declared.lexeme.Mark.TheVariants.{Symbol}

@@ -1,13 +1,11 @@
 -- The answers for whole texts.
-use Rattle.std.proofs.Common.{◌≡◌, ◌≢◌, ℕ, ◌≤◌, ◌<◌, Bool, true, false, nat_lt, List, [], ◌∷◌, length, refl, sym, ◌∙◌, subst, ap, arith}
+use Rattle.std.proofs.Common.{◌≡◌, ◌≢◌, ℕ, Bool, true, false, nat_lt, List, length, refl, ◌∙◌, subst, ap, arith}
 use Rattle.th_tree.specs.declared.lexeme.Lexeme.{Lexeme}
-use Rattle.th_tree.specs.Trees.{ModuleSyn, InterfaceSyn}
 use Rattle.th_tree.specs.Verdict.{FirstWrong}
 use Rattle.th_tree.specs.Declarations as grammar
-use Rattle.th_syntax.specs.Read.{Res, Got, Bad, P, member}
+use Rattle.th_syntax.specs.Read.{Got, Bad, P, member}
 use Rattle.th_syntax.proofs.Law.{Law}
 use Rattle.th_syntax.proofs.Exact.{tree_done, tree_surplus, refused, unique}
-use Rattle.th_decl.specs.Parse.{whole_module, interface}
 use Rattle.th_decl.specs.Answer.{OneText}
 use Rattle.th_decl.proofs.DeclLaws.{law_module, law_interface}
 

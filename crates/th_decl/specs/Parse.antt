@@ -1,13 +1,13 @@
 -- Reading modules and interfaces lexeme by lexeme.
-use Rattle.std.specs.Prelude.{ℕ, Bool, true, false, List, [], ◌∷◌, Option, Some, None}
+use Rattle.std.specs.Prelude.{ℕ, true, false, List, [], ◌∷◌, Option, Some}
 use Rattle.th_tree.specs.declared.tokens.Reserved.TheVariants.{KeyModule, KeyInterface, KeyImplements, KeyUses, KeyType, KeyClass, KeyFor, KeyInherits, KeyWhere, KeyHas, KeyException, KeyRoutine, KeyIter, KeyInit, KeyHidden, KeyField, KeyReturns, KeyYields, KeySignals, KeyEnd, KeySuper}
-use Rattle.th_tree.specs.declared.tokens.Sym.TheVariants.{OpenParen, CloseParen, OpenSquare, CloseSquare, Comma, Semicolon, Colon, Becomes, Less}
+use Rattle.th_tree.specs.declared.tokens.Sym.TheVariants.{OpenParen, CloseParen, OpenSquare, CloseSquare, Comma, Semicolon, Becomes, Less}
 use Rattle.th_tree.specs.declared.lexeme.Mark.{Mark}
 use Rattle.th_tree.specs.declared.lexeme.Mark.TheVariants.{Word, Symbol}
 use Rattle.th_tree.specs.declared.tree.Ident.{Ident}
 use Rattle.th_tree.specs.declared.tree.RefTree.{RefTree}
-use Rattle.th_tree.specs.Trees.{TypeSyn, TypeSyns, no_type, more_types, NamedSyn, FormalSyn, BodySyn, SigSyn, ClauseSyn, RoutineHeadSyn, RoutineSyn, ClassHeadSyn, InitHeadSyn, InterfaceClassSyn, SuperCallSyn, FieldAssignSyn, InitSyn, MethodSyn, ClassSyn, TypeDeclSyn, ExceptionSyn, InterfaceItemSyn, exception_item, type_item, class_item, routine_item, InterfaceSyn, ModuleItemSyn, module_class, module_routine, ModuleSyn}
-use Rattle.th_tree.specs.Grammar.{Expr, Founds}
+use Rattle.th_tree.specs.Trees.{TypeSyn, TypeSyns, no_type, more_types, NamedSyn, FormalSyn, SigSyn, ClauseSyn, RoutineHeadSyn, RoutineSyn, ClassHeadSyn, InitHeadSyn, InterfaceClassSyn, SuperCallSyn, FieldAssignSyn, InitSyn, MethodSyn, ClassSyn, TypeDeclSyn, ExceptionSyn, InterfaceItemSyn, exception_item, type_item, class_item, routine_item, InterfaceSyn, ModuleItemSyn, module_class, module_routine, ModuleSyn}
+use Rattle.th_tree.specs.Grammar.{Expr}
 use Rattle.th_syntax.specs.Read.{P, code, seq, ret, one, after, between, either, maybe, list_of, any_of}
 use Rattle.th_syntax.specs.Parse.{read_name, read_ref, read_type, read_named, read_form, read_formal, args_of}
 use Rattle.th_parse.specs.Parse.{read_body}

@@ -3,6 +3,8 @@
 #![tactic(auto)]
 
 #[cfg(test)]
+mod command_words;
+#[cfg(test)]
 mod commands;
 #[cfg(test)]
 mod executables;
@@ -15,9 +17,19 @@ mod outside;
 #[cfg(test)]
 mod programs;
 #[cfg(test)]
+mod refusals;
+#[cfg(test)]
 mod samples;
 #[cfg(test)]
+mod segments;
+#[cfg(test)]
+mod show;
+#[cfg(test)]
+mod show_items;
+#[cfg(test)]
 mod tokens;
+#[cfg(test)]
+mod trees;
 #[cfg(test)]
 mod watchers;
 #[cfg(test)]

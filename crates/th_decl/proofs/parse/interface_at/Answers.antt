@@ -1,4 +1,4 @@
-use Rattle.std.proofs.Common.{◌≡◌, length, refl, sym, ◌∙◌, ap}
+use Rattle.std.proofs.Common.{length, refl, ◌∙◌, ap}
 use Rattle.std.proofs.lemmas.Bool.{lt-ltb}
 use Rattle.th_tree.specs.DeclView.{interface_of}
 use Rattle.th_tree.specs.Numbered.{lexemes_of}
