@@ -1,16 +1,16 @@
 -- What a step leads to only adds to the trace, and has no part in the turns and the room that are left.
-use Rattle.std.proofs.Common.{◌≡◌, ℕ, zero, suc, ◌+◌, ◌-◌, Bool, true, false, ◌&&◌, ◌||◌, not, List, [], ◌∷◌, ◌++◌, Option, Some, None, refl, sym, ap, ◌∙◌, subst, length}
-use Rattle.std.specs.Prelude.{nat_lt, nat_eq, slice_get, set, if◌then◌else◌, bytes_eq}
-use Rattle.th_world.specs.Event.{Event, Put, Entered, Prefix}
-use Rattle.th_meaning.specs.World.{Halt, Stuck, Unset, give_back, note, yield_weight}
+use Rattle.std.proofs.Common.{◌≡◌, ℕ, ◌+◌, Bool, true, false, ◌&&◌, ◌||◌, not, List, [], ◌∷◌, Option, Some, None, refl, sym, ap, ◌∙◌, subst, length}
+use Rattle.std.specs.Prelude.{nat_lt, slice_get, if◌then◌else◌}
+use Rattle.th_world.specs.Event.{Put, Entered, Prefix}
+use Rattle.th_meaning.specs.World.{give_back, note, yield_weight}
 use Rattle.th_flat.specs.declared.op.FlatOp.{FlatOp}
-use Rattle.th_flat.specs.declared.op.FlatOp.TheVariants.{OpWord, OpLocal, OpSet, OpDrop, OpArith, OpCompare, OpSame, OpGo, OpUnless, OpCast, OpOwn, OpField, OpSetfield, OpCall, OpDispatch, OpHidden, OpSupply, OpNew, OpArray, OpAt, OpSetat, OpLength, OpPutbyte, OpPutint, OpGet, OpUnitword, OpRaise, OpIs, OpCaught, OpReturn, OpLeave, OpBody, OpYield, OpStop, OpStopped, OpTurn, OpText, OpAppend, OpLetter, OpExtent, OpPuttext, OpBlock, OpHandle, OpOver, OpNext, OpResume}
+use Rattle.th_flat.specs.declared.op.FlatOp.TheVariants.{OpCall, OpDispatch, OpHidden, OpSupply, OpYield, OpResume}
 use Rattle.th_flat.specs.declared.module.FlatUnit.{FlatUnit}
 use Rattle.th_flat.specs.Values.{FlatValue, FlatWorld, Status, Fine, Thrown, IsStopped}
 use Rattle.th_flat.specs.Program.{FlatProgram}
-use Rattle.th_flat.specs.Deeds.{Act, Falls, Jumps, Loads, Stores, Failing, Calls, Leaves, Yields, Nexts, Opens, OpensBody, Puts, Stands, Charge, Deed, free, doing}
-use Rattle.th_flat.specs.Configs.{Loop, NoLoop, Upto, ByUnit, Here, Stack, Bottom, Call, Paused, FlatEnd, Config, Run, Entering, Visiting, Returned, Putting, Over, stuck, weight_of, is_body, frame, words_of, entry_charge, self_of, room_of, inside, kept, freed, leaves_body, is_empty, go_to, home_unit, body_ends, ends_as, handler, fail_at, fail_to, jump_to, way_of, failure_of, is_call, is_next, open_at, shares_words, open_body, loaded, stored, visit, gives_result, with_value, can_enter, entered, finish, op_deed, seen_at_result, back_fine, back_by, back_seen, back_at, end_of, deed, world_of}
-use Rattle.th_flat.proofs.Tame.{resourced, act_world, act_resourced, prefix_refl, prefix_trans, TameAct, tame_doing, doing_resourced}
+use Rattle.th_flat.specs.Deeds.{Act, Falls, Jumps, Loads, Stores, Failing, Calls, Leaves, Yields, Nexts, Opens, OpensBody, Puts, Stands, Deed, free, doing}
+use Rattle.th_flat.specs.Configs.{Loop, NoLoop, Upto, ByUnit, Here, Stack, Bottom, Call, Paused, Config, Run, Entering, Visiting, Returned, Putting, Over, stuck, weight_of, is_body, frame, words_of, entry_charge, self_of, room_of, inside, freed, leaves_body, is_empty, go_to, body_ends, ends_as, handler, fail_at, fail_to, jump_to, way_of, failure_of, is_call, is_next, open_at, shares_words, loaded, visit, gives_result, with_value, can_enter, entered, finish, op_deed, seen_at_result, back_fine, back_by, back_seen, back_at, deed}
+use Rattle.th_flat.proofs.Tame.{resourced, act_world, act_resourced, prefix_refl, TameAct, tame_doing, doing_resourced}
 
 -- a world with no turns, and with no limit on the room
 abbrev pub bare_world : FlatWorld → FlatWorld
@@ -108,9 +108,10 @@ comes_open (Some e) u at h held below w = comes_if w (is_call (slice_get u.ops (
 
 comes_visit : (below : Stack) (v : FlatValue) (it : FlatUnit) (at : ℕ) (st : List FlatValue) (ls : List (Option FlatValue)) (holds : Stack) (w : FlatWorld) → Comes w (visit below v it at st ls holds w) (visit below v it at st ls holds (bare_world w))
 comes_visit Bottom v it at st ls holds w = comes_stuck w
-comes_visit (Call home hat hst hls held NoLoop below) v it at st ls holds w = comes_stuck w
-comes_visit (Call home hat hst hls held (Upto first last) below) v it at st ls holds w = record { turns = refl; trace = refl; same = refl }
-comes_visit (Call home hat hst hls held (ByUnit of body) below) v it at st ls holds w = record { turns = refl; trace = refl; same = refl }
+comes_visit (Call home hat [] hls held NoLoop below) v it at st ls holds w = comes_stuck w
+comes_visit (Call home hat (x ∷ hst) hls held loop below) v it at st ls holds w = comes_stuck w
+comes_visit (Call home hat [] hls held (Upto first last) below) v it at st ls holds w = record { turns = refl; trace = refl; same = refl }
+comes_visit (Call home hat [] hls held (ByUnit of body) below) v it at st ls holds w = record { turns = refl; trace = refl; same = refl }
 comes_visit (Paused u pat pst pls h home loop rest) v it at st ls holds w = comes_stuck w
 
 module _ (p : FlatProgram) where
@@ -207,11 +208,12 @@ module _ (p : FlatProgram) where
   does_op (Some op) u at loop h held below w0 w =
       let same : doing p op (self_of u h.locals) h.stack h.status (bare_world w0) ≡ doing p op (self_of u h.locals) h.stack h.status w0 = doing_resourced p 0 None op (self_of u h.locals) h.stack h.status w0 in
       let tame : TameAct (doing p op (self_of u h.locals) h.stack h.status w0).act = tame_doing p op (self_of u h.locals) h.stack h.status w0 in
-      let comes : Comes (act_world ((doing p op (self_of u h.locals) h.stack h.status w0).act w)) (finish p ((doing p op (self_of u h.locals) h.stack h.status w0).act w) (way_of op) (failure_of op) u at loop h held below) (finish p (act_resourced 0 None ((doing p op (self_of u h.locals) h.stack h.status w0).act w)) (way_of op) (failure_of op) u at loop h held below) = comes_finish ((doing p op (self_of u h.locals) h.stack h.status w0).act w) (way_of op) (failure_of op) u at loop h held below in
-      (ap (λ d. d.charge) same,
-      comes.turns ∙ act_turns _ tame w,
-      subst (λ t. Prefix w.trace t) (sym comes.trace) (tame.later w),
-      ap (λ d. finish p (d.act (bare_world w)) (way_of op) (failure_of op) u at loop h held below) same ∙ ap (λ a. finish p a (way_of op) (failure_of op) u at loop h held below) (tame.commutes 0 None w) ∙ comes.same)
+      let comes : Comes (act_world ((doing p op (self_of u h.locals) h.stack h.status w0).act w)) (finish p ((doing p op (self_of u h.locals) h.stack h.status w0).act w) (way_of op) (failure_of op) u at loop h held below) (finish p (act_resourced 0 None ((doing p op (self_of u h.locals) h.stack h.status w0).act w)) (way_of op) (failure_of op) u at loop h held below) = comes_finish ((doing p op (self_of u h.locals) h.stack h.status w0).act w) (way_of op) (failure_of op) u at loop h held below in (
+        ap (λ d. d.charge) same,
+        comes.turns ∙ act_turns _ tame w,
+        subst (λ t. Prefix w.trace t) (sym comes.trace) (tame.later w),
+        ap (λ d. finish p (d.act (bare_world w)) (way_of op) (failure_of op) u at loop h held below) same ∙ ap (λ a. finish p a (way_of op) (failure_of op) u at loop h held below) (tame.commutes 0 None w) ∙ comes.same,
+      )
 
   does_comes : (c : Config) (w : FlatWorld) → (deed p (bare c)).charge ≡ (deed p c).charge → Comes w ((deed p c).act w) ((deed p (bare c)).act (bare_world w)) → Does c w
   does_comes c w charge comes = record { charge = charge; turns = comes.turns; trace = subst (λ t. Prefix w.trace t) (sym comes.trace) (prefix_refl w.trace); same = comes.same }

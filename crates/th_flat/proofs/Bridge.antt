@@ -1,20 +1,19 @@
 -- A run with turns and a room is the run of the program whose costs are told apart.
-use Rattle.std.proofs.Common.{◌≡◌, ◌≢◌, ◌⊎◌, inl, inr, ⊎_elim, ℕ, zero, suc, ◌+◌, ◌-◌, ◌<◌, ◌≤◌, Bool, true, false, List, [], ◌∷◌, Option, Some, None, refl, sym, ap, ◌∙◌, subst, arith, nat_lt, cond}
-use Rattle.std.proofs.lemmas.Bool.{cases_Bool, cases_lt, lt-ltb, le-ltb, ltb-true}
+use Rattle.std.proofs.Common.{◌≡◌, ⊎_elim, ℕ, zero, suc, ◌+◌, ◌-◌, ◌<◌, ◌≤◌, Bool, true, false, List, [], ◌∷◌, Option, Some, None, refl, sym, ap, ◌∙◌, subst, arith, nat_lt, cond}
+use Rattle.std.proofs.lemmas.Bool.{cases_Bool, cases_lt, lt-ltb, le-ltb}
 use Rattle.std.specs.Prelude.{option_map, if◌then◌else◌}
 use Rattle.th_world.specs.Event.{Event, Prefix}
-use Rattle.th_runs.specs.Stand.{End, GoesOn, Ended, Raised, NoTurns, NoRoom, Trapped, Stand}
-use Rattle.th_runs.specs.Runs.{Program, exceeds, while_on, bounded_run}
-use Rattle.th_meaning.specs.World.{Effect, Did, Fails, Stops, and_then, Halt, OutOfTurns, OutOfRoom, Unset, Stuck, Deep, spend, reserve, lacks_room}
+use Rattle.th_runs.specs.Stand.{NoTurns, NoRoom, Stand}
+use Rattle.th_runs.specs.Runs.{exceeds, bounded_run}
+use Rattle.th_meaning.specs.World.{Effect, Did, Stops, and_then, OutOfTurns, OutOfRoom, Unset, Stuck, Deep, spend, reserve, lacks_room}
 use Rattle.th_flat.specs.declared.module.FlatUnit.{FlatUnit}
 use Rattle.th_flat.specs.Values.{FlatValue, FlatWorld}
 use Rattle.th_flat.specs.Program.{FlatProgram}
-use Rattle.th_flat.specs.Deeds.{Charge, no_charge, takes_turns, takes_room, takes_both, Deed}
-use Rattle.th_flat.specs.Configs.{Stack, Bottom, Call, Paused, FlatEnd, Ends, Raises, Halts, Config, Run, Entering, Visiting, Returned, Putting, Over, stuck, deed, world_of, on_charge, paid, step, steps}
-use Rattle.th_flat.specs.Runs.{stand_end, end_of_config, start, begin, stand_of, flat_stand, FlatRun, turns_of, room_of_charge, open_room, Metered, heap_room, cost, need, unpaid_step, flat_program, metered_start}
-use Rattle.th_flat.proofs.Tame.{prefix_refl, prefix_trans}
+use Rattle.th_flat.specs.Deeds.{Charge, no_charge, takes_turns, takes_room, takes_both}
+use Rattle.th_flat.specs.Configs.{Bottom, Call, Paused, FlatEnd, Ends, Raises, Halts, Config, Run, Entering, Visiting, Returned, Putting, Over, deed, world_of, on_charge, paid, step, steps}
+use Rattle.th_flat.specs.Runs.{stand_end, start, begin, stand_of, flat_stand, turns_of, room_of_charge, open_room, heap_room, cost, need, unpaid_step, flat_program, metered_start}
 use Rattle.th_flat.proofs.Bare.{bare_world, bare, config_world, Does, does}
-use Rattle.th_flat.proofs.Weighing.{RoomIs, Fits, Balanced, Good, opening, good_deed}
+use Rattle.th_flat.proofs.Weighing.{RoomIs, Fits, Good, opening, good_deed}
 
 lt_zero : (n : ℕ) → nat_lt n 0 ≡ false
 lt_zero n = le-ltb n 0 (omega arith)
@@ -42,6 +41,7 @@ lt_shift q r used whole e = ⊎_elim less more (cases_lt q r)
   where
     less : q < r → nat_lt q r ≡ nat_lt whole (used + r)
     less h = lt-ltb q r h ∙ sym (lt-ltb whole (used + r) (omega arith))
+
     more : r ≤ q → nat_lt q r ≡ nat_lt whole (used + r)
     more h = le-ltb q r h ∙ sym (le-ltb whole (used + r) (omega arith))
 

@@ -1,17 +1,15 @@
 -- Runs worked out by hand, on the three levels.
-use Rattle.std.proofs.Common.{◌≡◌, ℕ, Bool, true, false, List, [], ◌∷◌, Option, Some, None, refl}
+use Rattle.std.proofs.Common.{◌≡◌, ℕ, true, List, [], ◌∷◌, Option, Some, None, refl}
 use Rattle.std.specs.Prelude.{codes, bytes_eq, if◌then◌else◌}
 use Rattle.std.specs.Fmt.{digits}
 use Rattle.th_world.specs.Event.{Event, Put, Entered}
-use Rattle.th_runs.specs.Stand.{End, Ended, Raised, NoTurns, NoRoom, Trapped, Stand}
+use Rattle.th_runs.specs.Stand.{Ended, Raised, NoTurns, NoRoom, Trapped, Stand}
 use Rattle.th_runs.specs.Runs.{bounded_run}
 use Rattle.th_flat.specs.declared.op.FlatOp.{FlatOp}
-use Rattle.th_flat.specs.declared.op.FlatOp.TheVariants.{OpWord, OpLocal, OpSet, OpDrop, OpArith, OpCompare, OpGo, OpUnless, OpCast, OpOwn, OpField, OpSetfield, OpCall, OpDispatch, OpSupply, OpNew, OpArray, OpAt, OpPutbyte, OpPutint, OpUnitword, OpRaise, OpIs, OpCaught, OpReturn, OpLeave, OpBody, OpYield, OpStop, OpStopped, OpTurn, OpText, OpAppend, OpPuttext, OpBlock, OpHandle, OpOver, OpNext, OpResume}
+use Rattle.th_flat.specs.declared.op.FlatOp.TheVariants.{OpWord, OpLocal, OpSet, OpCompare, OpGo, OpUnless, OpCast, OpOwn, OpField, OpSetfield, OpCall, OpDispatch, OpSupply, OpNew, OpArray, OpAt, OpPutbyte, OpPutint, OpUnitword, OpReturn, OpLeave, OpBody, OpYield, OpStop, OpStopped, OpTurn, OpText, OpAppend, OpPuttext, OpBlock, OpHandle, OpOver, OpNext, OpResume}
 use Rattle.th_flat.specs.declared.module.FlatUnit.{FlatUnit}
-use Rattle.th_flat.specs.declared.module.FlatModule.{FlatModule}
 use Rattle.th_flat.specs.declared.module.Class.{Class}
 use Rattle.th_flat.specs.Program.{FlatProgram, Declared, program_of}
-use Rattle.th_flat.specs.Configs.{Config}
 use Rattle.th_flat.specs.Runs.{flat_stand, flat_program, begin, start}
 
 -- a type `b` with a method `get`, its subtype `t`, and a class `m/c` for `t`
@@ -23,8 +21,8 @@ declared = record {
   is_home = λ head method. bytes_eq head (codes "b");
   type_result = λ head method. None;
   class_result = λ class method. None;
-  header_words = λ class. 1
-  }
+  header_words = λ class. 1;
+}
 
 abbrev unit : List ℕ → ℕ → ℕ → ℕ → ℕ → List FlatOp → FlatUnit
 unit name kind args locals depth ops = record { name = name; kind = kind; args = args; locals = locals; depth = depth; ops = ops }
@@ -51,8 +49,8 @@ seven_and_zero_3 = unit (codes "m/it") 1 0 0 1 (OpWord 7 ∷ OpYield 5 ∷ OpWor
 -- a loop whose body puts the value, and breaks at 0; then 1 is put
 abbrev breaking : FlatUnit
 breaking = main 3 (OpOver 8 ∷ OpCall (codes "m/it") 0 0 12 ∷ OpSet 0
-  ∷ OpLocal 0 ∷ OpPutbyte 12 ∷ OpLocal 0 ∷ OpUnless 9 ∷ OpGo 8
-  ∷ OpNext ∷ OpWord 1 ∷ OpPutbyte 12 ∷ OpReturn 0 ∷ [])
+    ∷ OpLocal 0 ∷ OpPutbyte 12 ∷ OpLocal 0 ∷ OpUnless 9 ∷ OpGo 8
+    ∷ OpNext ∷ OpWord 1 ∷ OpPutbyte 12 ∷ OpReturn 0 ∷ [])
 
 abbrev breaking_trace : List Event
 breaking_trace = Put 1 ∷ Put 0 ∷ Put 7 ∷ Entered (codes "m/it") ∷ Entered (codes "m/main") ∷ []
@@ -74,12 +72,12 @@ breaks_without_room = refl
 -- the same on level 3: local word 1 tells how the body was left
 abbrev breaking_3 : FlatUnit
 breaking_3 = main 3 (OpWord 0 ∷ OpSet 1 ∷ OpBody (codes "m/main#0") ∷ OpCall (codes "m/it") 0 0 5 ∷ OpGo 11
-  ∷ OpLocal 1 ∷ OpUnless 10 ∷ OpStopped 11 ∷ OpWord 0 ∷ OpSet 1 ∷ OpGo 11
-  ∷ OpWord 1 ∷ OpPutbyte 14 ∷ OpReturn 0 ∷ OpLeave ∷ [])
+    ∷ OpLocal 1 ∷ OpUnless 10 ∷ OpStopped 11 ∷ OpWord 0 ∷ OpSet 1 ∷ OpGo 11
+    ∷ OpWord 1 ∷ OpPutbyte 14 ∷ OpReturn 0 ∷ OpLeave ∷ [])
 
 abbrev breaking_body : FlatUnit
 breaking_body = unit (codes "m/main#0") 5 0 3 4 (OpSet 0 ∷ OpLocal 0 ∷ OpPutbyte 6 ∷ OpLocal 0 ∷ OpUnless 7
-  ∷ OpReturn 0 ∷ OpLeave ∷ OpWord 1 ∷ OpSet 1 ∷ OpStop ∷ [])
+    ∷ OpReturn 0 ∷ OpLeave ∷ OpWord 1 ∷ OpSet 1 ∷ OpStop ∷ [])
 
 breaks_3 : run_of (breaking_3 ∷ breaking_body ∷ seven_and_zero_3 ∷ []) 3 (Some 608) 100 ≡ record { end = Ended; trace = breaking_trace }
 breaks_3 = refl
@@ -90,8 +88,8 @@ breaks_3_without_room = refl
 -- an exception that a loop's body raises goes past the iterator to the handler around the loop
 abbrev raising : FlatUnit
 raising = main 3 (OpBlock 8 6 ∷ OpOver 5 ∷ OpCall (codes "m/it") 0 0 12 ∷ OpWord 300 ∷ OpPutbyte 12
-  ∷ OpNext ∷ OpWord 1 ∷ OpPutbyte 12
-  ∷ OpHandle (codes "bounds") 0 12 ∷ OpWord 2 ∷ OpPutbyte 12 ∷ OpReturn 0 ∷ [])
+    ∷ OpNext ∷ OpWord 1 ∷ OpPutbyte 12
+    ∷ OpHandle (codes "bounds") 0 12 ∷ OpWord 2 ∷ OpPutbyte 12 ∷ OpReturn 0 ∷ [])
 
 raises : run_of (raising ∷ seven_and_zero ∷ []) 3 None 100 ≡ record { end = Ended; trace = Put 2 ∷ Entered (codes "m/it") ∷ Entered (codes "m/main") ∷ [] }
 raises = refl
@@ -106,7 +104,7 @@ raises_out = refl
 -- a new object of class c, whose initializer sets its field to 5; its method, called at the type `b`, gives it
 abbrev making : FlatUnit
 making = main 1 (OpNew (codes "m/c") ∷ OpWord 5 ∷ OpCall (codes "m/c.init") 2 1 7 ∷ OpCast (codes "t") (codes "b")
-  ∷ OpDispatch (codes "b") (codes "get") 1 1 7 ∷ OpPutint ∷ OpReturn 0 ∷ OpLeave ∷ [])
+    ∷ OpDispatch (codes "b") (codes "get") 1 1 7 ∷ OpPutint ∷ OpReturn 0 ∷ OpLeave ∷ [])
 
 abbrev init : FlatUnit
 init = unit (codes "m/c.init") 4 2 1 2 (OpLocal 1 ∷ OpSetfield (codes "m/c") 0 ∷ OpOwn (codes "m/c") ∷ OpReturn 1 ∷ OpLeave ∷ [])
@@ -129,7 +127,7 @@ makes_short = refl
 -- at another type than the one at which it is seen, the object can't be used
 abbrev unseen : FlatUnit
 unseen = main 1 (OpNew (codes "m/c") ∷ OpWord 5 ∷ OpCall (codes "m/c.init") 2 1 6
-  ∷ OpDispatch (codes "b") (codes "get") 1 1 6 ∷ OpPutint ∷ OpReturn 0 ∷ OpLeave ∷ [])
+    ∷ OpDispatch (codes "b") (codes "get") 1 1 6 ∷ OpPutint ∷ OpReturn 0 ∷ OpLeave ∷ [])
 
 sticks : run_of (unseen ∷ init ∷ get ∷ []) 9 None 50 ≡ record { end = Trapped; trace = Entered (codes "m/c.init") ∷ Entered (codes "m/main") ∷ [] }
 sticks = refl

@@ -4,3 +4,5 @@ pub mod Tame
 pub mod Bare
 pub mod Weighing
 pub mod Bridge
+pub mod Shapes
+pub mod Heights

@@ -1,15 +1,15 @@
 -- What an operation does of itself only adds to the trace, and has no part in the turns and the room that are left.
-use Rattle.std.proofs.Common.{◌≡◌, ℕ, zero, suc, ◌+◌, Bool, true, false, ◌&&◌, List, [], ◌∷◌, ◌++◌, Option, Some, None, refl, sym, ap, ◌∙◌, subst, length, append_assoc}
+use Rattle.std.proofs.Common.{◌≡◌, ℕ, zero, suc, ◌+◌, Bool, true, false, List, [], ◌∷◌, ◌++◌, Option, Some, None, refl, sym, ap, ◌∙◌, length, append_assoc}
 use Rattle.std.specs.Prelude.{ℤ, pos, negsuc, ◌+ℤ◌, ◌-ℤ◌, ◌*ℤ◌, neg_ℤ, int_div, int_rem, nat_lt, nat_eq, slice_get, option_map, find, replicate, if◌then◌else◌, bytes_eq}
 use Rattle.std.specs.Fmt.{signed_decimal}
 use Rattle.th_world.specs.Event.{Event, Put, Took, FoundEnd, Prefix}
-use Rattle.th_meaning.specs.World.{Object, Instance, Array, World, Halt, Unset, Stuck, Effect, Did, Fails, Stops, and_then, negation, overflow, zero_divide, bounds, end_of_input, greatest, text_weight, note, fits_word, unless_overflow, is_zero, quotient, remainder, put_byte, put_all, take_of, get_byte, item_at, within_bounds, letter, add_object, on_array, element, array_length, with_item, with_object, set_element, on_instance, is_slot, if_set, field_value, set_field}
+use Rattle.th_meaning.specs.World.{Object, Instance, Array, Halt, Unset, Stuck, Effect, Did, Fails, Stops, and_then, negation, overflow, zero_divide, bounds, greatest, text_weight, note, fits_word, unless_overflow, is_zero, put_byte, put_all, take_of, get_byte, item_at, within_bounds, letter, add_object, on_array, element, array_length, with_item, with_object, set_element, on_instance, is_slot, if_set, field_value, set_field}
 use Rattle.th_flat.specs.declared.op.FlatOp.{FlatOp}
 use Rattle.th_flat.specs.declared.op.FlatOp.TheVariants.{OpWord, OpLocal, OpSet, OpDrop, OpArith, OpCompare, OpSame, OpGo, OpUnless, OpCast, OpOwn, OpField, OpSetfield, OpCall, OpDispatch, OpHidden, OpSupply, OpNew, OpArray, OpAt, OpSetat, OpLength, OpPutbyte, OpPutint, OpGet, OpUnitword, OpRaise, OpIs, OpCaught, OpReturn, OpLeave, OpBody, OpYield, OpStop, OpStopped, OpTurn, OpText, OpAppend, OpLetter, OpExtent, OpPuttext, OpBlock, OpHandle, OpOver, OpNext, OpResume}
 use Rattle.th_flat.specs.declared.module.FlatUnit.{FlatUnit}
-use Rattle.th_flat.specs.Values.{View, as_whole, at_type, FlatValue, Int, Ref, Text, Code, FlatWorld, Status, Fine, Thrown, IsStopped, signed, truth}
+use Rattle.th_flat.specs.Values.{View, as_whole, at_type, FlatValue, Int, Ref, Text, Code, FlatWorld, Status, Fine, Thrown, IsStopped}
 use Rattle.th_flat.specs.Program.{FlatProgram}
-use Rattle.th_flat.specs.Deeds.{Act, Falls, Jumps, Loads, Stores, Failing, Calls, Leaves, Yields, Nexts, Opens, OpensBody, Puts, Stands, Charge, no_charge, takes_turns, takes_room, takes_both, Deed, free, for_turns, for_both, stuck_act, on_effect, on_top, on_int, on_ref, on_text, on_code, if_whole, if_at, on_whole, on_seen, on_some, on_test, off, off_two, on_class, on_self, arith_value, push_number, arith_deed, holds, at_zero, call_charge, calling, on_receiver, array_deed, append_deed, value_for, end_exception, caught_deed, is_thrown, handle_deed, if_fine, stopped_act, doing}
+use Rattle.th_flat.specs.Deeds.{Act, Falls, Jumps, Loads, Stores, Failing, Calls, Leaves, Yields, Nexts, Opens, OpensBody, Puts, Stands, Charge, no_charge, Deed, free, for_both, stuck_act, on_effect, on_top, on_int, on_ref, on_text, on_code, on_whole, on_seen, on_some, on_test, off, off_two, on_class, on_self, arith_value, push_number, arith_deed, at_zero, calling, on_receiver, array_deed, append_deed, value_for, end_exception, caught_deed, is_thrown, handle_deed, if_fine, stopped_act, doing}
 
 -- a world with other turns and another room
 abbrev pub resourced : ℕ → Option ℕ → FlatWorld → FlatWorld
@@ -139,6 +139,7 @@ tame_set_element k i v = tame_object k (λ o w. on_array o w (λ elements. and_t
     put_there : (elements : List FlatValue) (o : Option FlatValue) → TameEffect {A = Unit {0}} (λ w. and_then (within_bounds o w) (λ _ w1. Did tt (with_object k (Array (with_item elements i v)) w1)))
     put_there elements None = tame_fails bounds
     put_there elements (Some x) = record { commutes = λ n r w. refl; later = λ w. prefix_refl w.trace }
+
     each : (o : Option (Object FlatValue)) → TameEffect {A = Unit {0}} (λ w. on_array o w (λ elements. and_then (within_bounds (item_at elements i) w) (λ _ w1. Did tt (with_object k (Array (with_item elements i v)) w1))))
     each None = tame_stops Stuck
     each (Some (Instance class slots)) = tame_stops Stuck
@@ -150,6 +151,7 @@ tame_field_value k class i = tame_object k (λ o w. on_instance o w (λ _ slots.
     read : (o : Option FlatValue) → TameEffect (λ w. if_set o w)
     read None = tame_stops Unset
     read (Some v) = tame_did v
+
     each : (o : Option (Object FlatValue)) → TameEffect (λ w. on_instance o w (λ _ slots. if_set (option_map (λ s. s.value) (find (is_slot class i) slots)) w))
     each None = tame_stops Stuck
     each (Some (Instance c slots)) = read (option_map (λ s. s.value) (find (is_slot class i) slots))
@@ -290,8 +292,8 @@ on_later (Stops h w) go t = prefix_refl w.trace
 tame_on : {A : Type 0} (e : FlatWorld → Effect FlatValue A) (go : A → FlatWorld → Act) → TameEffect e → ((a : A) → TameAct (go a)) → TameAct (λ w. on_effect (e w) go)
 tame_on e go t u = record {
   commutes = λ n r w. ap (λ x. on_effect x go) (t.commutes n r w) ∙ on_resourced (e w) go u n r;
-  later = λ w. prefix_trans w.trace (effect_world (e w)).trace (act_world (on_effect (e w) go)).trace (t.later w) (on_later (e w) go u)
-  }
+  later = λ w. prefix_trans w.trace (effect_world (e w)).trace (act_world (on_effect (e w) go)).trace (t.later w) (on_later (e w) go u);
+}
 
 -- an act that changes nothing of the world
 tame_falls_act : (st : List FlatValue) (s : Status) → TameAct (λ w. Falls st s w)

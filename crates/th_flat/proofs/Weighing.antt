@@ -1,16 +1,16 @@
 -- The room that is left and the room that is in use are together the room at the start.
-use Rattle.std.proofs.Common.{◌≡◌, ℕ, zero, suc, ◌+◌, ◌-◌, ◌*◌, ◌≤◌, Bool, true, false, ◌&&◌, ◌||◌, not, List, [], ◌∷◌, Option, Some, None, refl, sym, ap, ◌∙◌, subst, length, arith, nat_eq, nat_lt}
+use Rattle.std.proofs.Common.{◌≡◌, ℕ, ◌+◌, ◌*◌, ◌≤◌, Bool, true, false, ◌&&◌, ◌||◌, not, List, [], ◌∷◌, Option, Some, None, refl, sym, ap, ◌∙◌, subst, length, arith, nat_eq, nat_lt}
 use Rattle.std.proofs.lemmas.Bool.{eqb-true}
 use Rattle.std.specs.Prelude.{slice_get, option_map, if◌then◌else◌}
 use Rattle.th_meaning.specs.World.{give_back, note, yield_weight}
 use Rattle.th_world.specs.Event.{Entered, Put}
 use Rattle.th_flat.specs.declared.op.FlatOp.{FlatOp}
-use Rattle.th_flat.specs.declared.op.FlatOp.TheVariants.{OpWord, OpLocal, OpSet, OpDrop, OpArith, OpCompare, OpSame, OpGo, OpUnless, OpCast, OpOwn, OpField, OpSetfield, OpCall, OpDispatch, OpHidden, OpSupply, OpNew, OpArray, OpAt, OpSetat, OpLength, OpPutbyte, OpPutint, OpGet, OpUnitword, OpRaise, OpIs, OpCaught, OpReturn, OpLeave, OpBody, OpYield, OpStop, OpStopped, OpTurn, OpText, OpAppend, OpLetter, OpExtent, OpPuttext, OpBlock, OpHandle, OpOver, OpNext, OpResume}
+use Rattle.th_flat.specs.declared.op.FlatOp.TheVariants.{OpCall, OpDispatch, OpHidden, OpSupply, OpYield, OpResume}
 use Rattle.th_flat.specs.declared.module.FlatUnit.{FlatUnit}
 use Rattle.th_flat.specs.Values.{FlatValue, FlatWorld, Status, Fine, Thrown, IsStopped}
 use Rattle.th_flat.specs.Program.{FlatProgram}
-use Rattle.th_flat.specs.Deeds.{Act, Falls, Jumps, Loads, Stores, Failing, Calls, Leaves, Yields, Nexts, Opens, OpensBody, Puts, Stands, Charge, no_charge, takes_room, Deed, free, doing}
-use Rattle.th_flat.specs.Configs.{Loop, NoLoop, Upto, ByUnit, Here, Stack, Bottom, Call, Paused, Config, Run, Entering, Visiting, Returned, Putting, Over, stuck, weight_of, entry_charge, is_body, frame, words_of, self_of, room_of, inside, kept, freed, leaves_body, is_empty, go_to, home_unit, body_ends, ends_as, handler, fail_at, fail_to, jump_to, way_of, failure_of, is_call, is_next, open_at, shares_words, open_body, loaded, stored, visit, gives_result, with_value, can_enter, entered, finish, op_deed, seen_at_result, back_fine, back_by, back_seen, back_at, deed}
+use Rattle.th_flat.specs.Deeds.{Act, Falls, Jumps, Loads, Stores, Failing, Calls, Leaves, Yields, Nexts, Opens, OpensBody, Puts, Stands, no_charge, takes_room, doing}
+use Rattle.th_flat.specs.Configs.{Loop, NoLoop, Upto, ByUnit, Here, Stack, Bottom, Call, Paused, Config, Run, Entering, Visiting, Returned, Putting, Over, stuck, weight_of, entry_charge, is_body, self_of, room_of, inside, kept, freed, leaves_body, is_empty, go_to, home_unit, body_ends, ends_as, handler, fail_at, fail_to, jump_to, way_of, failure_of, is_call, is_next, open_at, shares_words, open_body, loaded, visit, gives_result, with_value, can_enter, entered, finish, op_deed, seen_at_result, back_fine, back_by, back_seen, back_at, deed}
 use Rattle.th_flat.specs.Runs.{room_of_charge, room_below, open_room, need}
 use Rattle.th_flat.proofs.Tame.{act_world, TameAct, tame_doing}
 use Rattle.th_flat.proofs.Bare.{act_room, enter_deed}
@@ -123,8 +123,8 @@ module _ (whole : Option ℕ) (x : ℕ) where
   works_kept false l u held below w k = record {
     held_by = kept_held u l held k.held_by;
     below_fits = k.below_fits;
-    room = room_at whole _ _ _ (omega arith) (freed_room whole l held w (x + weight_of u + room_below below) (room_at whole w _ _ (omega arith) k.room))
-    }
+    room = room_at whole _ _ _ (omega arith) (freed_room whole l held w (x + weight_of u + room_below below) (room_at whole w _ _ (omega arith) k.room));
+  }
 
   good_go : (l : ℕ) (u : FlatUnit) (h : Here) (held below : Stack) (w : FlatWorld) → Works whole x u held below w → Good whole x (go_to l u h held below w)
   good_go l u h held below w k = good_when (nat_lt l (length u.ops) && (is_body u || not (leaves_body l held) || is_empty h.stack)) _ w (λ _. good_run u l NoLoop h _ below _ tt (works_kept (is_body u) l u held below w k))
@@ -134,8 +134,8 @@ module _ (whole : Option ℕ) (x : ℕ) where
   good_body_ends (Call u1 at st ls1 held loop below1) u s v ls below w k = good_stuck w
   good_body_ends (Paused it at st its holds home loop rest) u s v ls below w k = record {
     fits = (k.held_by.2, tt, (k.held_by.3, k.held_by.1, k.below_fits));
-    balanced = back_room whole w yield_weight _ (room_at whole w _ _ (let e : weight_of u ≡ weight_of (home_unit loop u) = k.held_by.0 in omega arith) k.room)
-    }
+    balanced = back_room whole w yield_weight _ (room_at whole w _ _ (let e : weight_of u ≡ weight_of (home_unit loop u) = k.held_by.0 in omega arith) k.room);
+  }
 
   good_ends : (u : FlatUnit) (s : Status) (v : Option FlatValue) (ls : List (Option FlatValue)) (held below : Stack) (w : FlatWorld) → Works whole x u held below w → Good whole x (ends_as u s v ls held below w)
   good_ends u s v ls held below w k = go (is_body u)
@@ -198,15 +198,16 @@ module _ (whole : Option ℕ) (x : ℕ) where
 
   good_visit : (below : Stack) (v : FlatValue) (it : FlatUnit) (at : ℕ) (st : List FlatValue) (ls : List (Option FlatValue)) (holds : Stack) (w : FlatWorld) → Works whole x it holds below w → Good whole x (visit below v it at st ls holds w)
   good_visit Bottom v it at st ls holds w k = good_stuck w
-  good_visit (Call home hat hst hls held NoLoop below) v it at st ls holds w k = good_stuck w
-  good_visit (Call home hat hst hls held (Upto first last) below) v it at st ls holds w k = record {
+  good_visit (Call home hat [] hls held NoLoop below) v it at st ls holds w k = good_stuck w
+  good_visit (Call home hat (y ∷ hst) hls held loop below) v it at st ls holds w k = good_stuck w
+  good_visit (Call home hat [] hls held (Upto first last) below) v it at st ls holds w k = record {
     fits = ((refl, tt, k.held_by, k.below_fits.0), k.below_fits.2, omega arith);
-    balanced = room_at whole w _ _ (omega arith) k.room
-    }
-  good_visit (Call home hat hst hls held (ByUnit of body) below) v it at st ls holds w k = record {
+    balanced = room_at whole w _ _ (omega arith) k.room;
+  }
+  good_visit (Call home hat [] hls held (ByUnit of body) below) v it at st ls holds w k = record {
     fits = ((k.below_fits.1, k.below_fits.1, k.held_by, k.below_fits.0), k.below_fits.2, omega arith);
-    balanced = room_at whole w _ _ (let e : weight_of body ≡ weight_of home = k.below_fits.1 in omega arith) k.room
-    }
+    balanced = room_at whole w _ _ (let e : weight_of body ≡ weight_of home = k.below_fits.1 in omega arith) k.room;
+  }
   good_visit (Paused u pat pst pls h home loop rest) v it at st ls holds w k = good_stuck w
 
   module _ (p : FlatProgram) where

@@ -243,11 +243,12 @@ abbrev pub stored : ℕ → FlatValue → List FlatValue → FlatUnit → ℕ �
 stored k v st u at h held below w =
     if nat_lt k (length h.locals) then Run u (at + 1) NoLoop (record { stack = st; locals = set h.locals k (Some v); status = h.status }) held below w else stuck w
 
--- a yield's value goes to the body of the loop below, above which the iterator waits
+-- a yield's value goes to the body of the loop below, above which the iterator waits; nothing is on the stack of the loop's home
 abbrev pub visit : (below : Stack) → FlatValue → FlatUnit → ℕ → List FlatValue → List (Option FlatValue) → Stack → FlatWorld → Config
-visit (Call home at st ls held (Upto first last) below) v it it_at its itl holds w = Visiting v home first ls (Paused it it_at its itl holds at (Upto first last) held) below w
-visit (Call home at st ls held (ByUnit of body) below) v it it_at its itl holds w = Visiting v body 0 ls (Paused it it_at its itl holds at (ByUnit home body) held) below w
-visit (Call home at st ls held NoLoop below) v it it_at its itl holds w = stuck w
+visit (Call home at [] ls held (Upto first last) below) v it it_at its itl holds w = Visiting v home first ls (Paused it it_at its itl holds at (Upto first last) held) below w
+visit (Call home at [] ls held (ByUnit of body) below) v it it_at its itl holds w = Visiting v body 0 ls (Paused it it_at its itl holds at (ByUnit home body) held) below w
+visit (Call home at [] ls held NoLoop below) v it it_at its itl holds w = stuck w
+visit (Call home at (x ∷ st) ls held loop below) v it it_at its itl holds w = stuck w
 visit Bottom v it it_at its itl holds w = stuck w
 visit (Paused u at st ls h home loop rest) v it it_at its itl holds w = stuck w
 
