@@ -5,8 +5,8 @@ use Rattle.th_tree.specs.declared.tree.Ident.{Ident}
 use Rattle.th_tree.specs.declared.tree.RefTree.{RefTree}
 use Rattle.th_hier.specs.declared.item.ItemName.{ItemName}
 use Rattle.th_hier.specs.declared.item.Entry.{Entry}
-use Rattle.th_hier.specs.declared.item.Meaning.{Meaning}
-use Rattle.th_hier.specs.declared.item.Meaning.TheVariants as meanings
+use Rattle.th_hier.specs.declared.item.Referent.{Referent}
+use Rattle.th_hier.specs.declared.item.Referent.TheVariants as referents
 
 -- whether the number is among the numbers
 abbrev pub has : List ℕ → ℕ → Bool
@@ -57,29 +57,29 @@ is_number None n = false
 is_number (Some m) n = nat_eq m n
 
 -- the item that a bare name means: one of the text's own interface, else one of the implemented interface
-abbrev pub own_or : Option Entry → Option Entry → Meaning
-own_or (Some e) other = meanings.Item e
-own_or None (Some e) = meanings.Item e
-own_or None None = meanings.Nothing
+abbrev pub own_or : Option Entry → Option Entry → Referent
+own_or (Some e) other = referents.Item e
+own_or None (Some e) = referents.Item e
+own_or None None = referents.Nothing
 
 -- a bare name means a type parameter, else an item
-abbrev pub param_or : Option ℕ → Meaning → Meaning
-param_or (Some k) m = meanings.Param k
+abbrev pub param_or : Option ℕ → Referent → Referent
+param_or (Some k) m = referents.Param k
 param_or None m = m
 
 -- what a bare name means
-abbrev pub bare_meaning : Items → Visible → ℕ → Meaning
+abbrev pub bare_meaning : Items → Visible → ℕ → Referent
 bare_meaning items v n = param_or (position (nat_eq n) v.params) (own_or (item_in items v.text n) (item_in items v.implements n))
 
 -- what `I$n` means: item n of the interface I, where it is named after `uses` or `implements`
-abbrev pub full_meaning : Items → Visible → ℕ → ℕ → Meaning
-full_meaning items v i n = if has v.uses i || is_number v.implements i then own_or (item_at items (record { interface = i; name = n })) None else meanings.Nothing
+abbrev pub full_meaning : Items → Visible → ℕ → ℕ → Referent
+full_meaning items v i n = if has v.uses i || is_number v.implements i then own_or (item_at items (record { interface = i; name = n })) None else referents.Nothing
 
 -- what the name means after a first one, or alone
-abbrev pub named_meaning : Items → Visible → Ident → Option Ident → Meaning
+abbrev pub named_meaning : Items → Visible → Ident → Option Ident → Referent
 named_meaning items v first None = bare_meaning items v first.name
 named_meaning items v first (Some second) = full_meaning items v first.name second.name
 
 -- what a reference means
-abbrev pub meaning : Items → Visible → RefTree → Meaning
+abbrev pub meaning : Items → Visible → RefTree → Referent
 meaning items v r = named_meaning items v r.first r.second

@@ -2,7 +2,7 @@
 ghost use Rattle.std.specs.Prelude.{◌≡◌};
 ghost use Rattle.th_hier.specs.Naming.{is_number, item_at, item_in, own_or, bare_meaning, full_meaning, meaning};
 
-use crate::item::{Entry, ItemName, Meaning};
+use crate::item::{Entry, ItemName, Referent};
 use crate::numbers::Numbers;
 use indexmap::IndexMap;
 use std::marker::Model;
@@ -58,28 +58,28 @@ impl Index {
     }
 
     /// What a bare name means.
-    fn bare_meaning(&self, sight: &Sight, name: u32) -> Meaning
+    fn bare_meaning(&self, sight: &Sight, name: u32) -> Referent
         ensures { result ≡ bare_meaning self.now sight.now name }
     {
         match sight.params.place(name) {
-            Some(place) => Meaning::Param(place),
+            Some(place) => Referent::Param(place),
             None => item_meaning(self.get_in(sight.text, name), self.get_in(sight.implements, name)),
         }
     }
 
     /// What `I$n` means.
-    fn full_meaning(&self, sight: &Sight, interface: u32, name: u32) -> Meaning
+    fn full_meaning(&self, sight: &Sight, interface: u32, name: u32) -> Referent
         ensures { result ≡ full_meaning self.now sight.now interface name }
     {
         if sight.uses.has(interface) || is_number(sight.implements, interface) {
             item_meaning(self.get(ItemName { interface, name }), None)
         } else {
-            Meaning::Nothing
+            Referent::Nothing
         }
     }
 
     /// What a reference means.
-    pub fn meaning(&self, sight: &Sight, named: &RefTree) -> Meaning
+    pub fn meaning(&self, sight: &Sight, named: &RefTree) -> Referent
         ensures { result ≡ meaning self.now sight.now named.now }
     {
         match named.second {
@@ -100,14 +100,14 @@ fn is_number(number: Option<u32>, other: u32) -> bool
 }
 
 /// The text's own item, else that of the implemented interface.
-fn item_meaning(own: Option<Entry>, implemented: Option<Entry>) -> Meaning
+fn item_meaning(own: Option<Entry>, implemented: Option<Entry>) -> Referent
     ensures { result ≡ own_or own implemented }
 {
     match own {
-        Some(entry) => Meaning::Item(entry),
+        Some(entry) => Referent::Item(entry),
         None => match implemented {
-            Some(entry) => Meaning::Item(entry),
-            None => Meaning::Nothing,
+            Some(entry) => Referent::Item(entry),
+            None => Referent::Nothing,
         },
     }
 }

@@ -11,7 +11,7 @@ pub struct ItemName {
 #[derive(Clone, Copy, Debug, PartialEq, Eq)]
 pub enum Sort {
     Exception,
-    Type(u32),
+    Declared(u32),
     Class(u32),
     Routine(u32),
     Iterator(u32),
@@ -26,7 +26,7 @@ pub struct Entry {
 
 /// What a name means: a type parameter, by its place, or an item of an interface.
 #[derive(Clone, Copy, Debug, PartialEq, Eq)]
-pub enum Meaning {
+pub enum Referent {
     Nothing,
     Param(u32),
     Item(Entry),

@@ -4,7 +4,9 @@
 mod index;
 mod item;
 mod numbers;
+mod resolve;
 
 pub use index::{Index, Sight};
-pub use item::{Entry, ItemName, Meaning, Sort};
+pub use item::{Entry, ItemName, Referent, Sort};
 pub use numbers::Numbers;
+pub use resolve::{has_count, turned, with_type};
