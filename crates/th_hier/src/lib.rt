@@ -5,8 +5,9 @@ mod index;
 mod item;
 mod numbers;
 mod resolve;
+mod walk;
 
 pub use index::{Index, Sight};
 pub use item::{Entry, ItemName, Referent, Sort};
 pub use numbers::Numbers;
-pub use resolve::{has_count, turned, with_type};
+pub use walk::{walk_type, walk_types};

@@ -41,7 +41,7 @@ fn judge_sort(least: &mut Option<Failure>, sort: Sort, args: &TypeList, at: Plac
 }
 
 /// Judges what is referred to in a type with these arguments.
-fn judge_type_name(least: &mut Option<Failure>, referent: Referent, args: &TypeList, at: Place)
+pub fn judge_type_name(least: &mut Option<Failure>, referent: Referent, args: &TypeList, at: Place)
     ensures { least.new ≡ lowest least.old (type_name_fails referent (count (types_of args.now)) at) }
 {
     match referent {
@@ -68,7 +68,7 @@ fn entry_type(entry: Entry, args: &TypeList, types: TyList) -> Option<Ty>
 }
 
 /// The type of what is referred to, with these arguments.
-fn referent_type(referent: Referent, args: &TypeList, types: Option<TyList>) -> Option<Ty>
+pub fn referent_type(referent: Referent, args: &TypeList, types: Option<TyList>) -> Option<Ty>
     ensures { ty_opt result ≡ referent_type referent (count (types_of args.now)) (tys_opt types) }
 {
     let types = types?;
@@ -86,7 +86,7 @@ fn referent_type(referent: Referent, args: &TypeList, types: Option<TyList>) -> 
 }
 
 /// The array of the elements' type.
-fn array_type(alloc: Global, of: Option<Ty>) -> Result<Option<Ty>, AllocError>
+pub fn array_type(alloc: Global, of: Option<Ty>) -> Result<Option<Ty>, AllocError>
     ensures { IfOk result (λ r. ty_opt r ≡ array_of (ty_opt of)) }
 {
     match of {
