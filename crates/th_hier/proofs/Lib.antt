@@ -1,3 +1,4 @@
 pub mod Finding
 pub mod Failing
 pub mod Walking
+pub mod Mapped

@@ -1,3 +1,4 @@
 pub mod Naming
 pub mod Resolve
 pub mod Views
+pub mod Spots

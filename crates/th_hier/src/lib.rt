@@ -5,9 +5,11 @@ mod index;
 mod item;
 mod numbers;
 mod resolve;
+mod spot;
 mod walk;
 
 pub use index::{Index, Sight};
 pub use item::{Entry, ItemName, Referent, Sort};
 pub use numbers::Numbers;
+pub use spot::{Spot, judge_formals, judge_items, judge_methods, judge_params, judge_repeats};
 pub use walk::{walk_type, walk_types};
