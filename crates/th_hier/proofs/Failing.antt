@@ -1,5 +1,6 @@
 -- Lists of failures one after another.
-use Rattle.std.proofs.Common.{◌≡◌, List, [], ◌∷◌, ◌++◌, Option, refl}
+use Rattle.std.proofs.Common.{◌≡◌, ℕ, suc, ◌+◌, ◌<◌, List, [], ◌∷◌, ◌++◌, length, get_or, drop, Option, refl, sym, ap, ◌∙◌, add-one, subst}
+use Rattle.std.proofs.Math.Seq.{drop-cons}
 use Rattle.th_type.specs.declared.place.Failure.{Failure}
 use Rattle.th_type.specs.Failures.{lower, lowest}
 
@@ -7,3 +8,16 @@ use Rattle.th_type.specs.Failures.{lower, lowest}
 pub lowest_append : (o : Option Failure) (xs ys : List Failure) → lowest o (xs ++ ys) ≡ lowest (lowest o xs) ys
 lowest_append o [] ys = refl
 lowest_append o (x ∷ xs) ys = lowest_append (lower o x) xs ys
+
+-- what is left of a list before its next element
+pub next_item : {A : Type 0} (xs : List A) (i : ℕ) (x : A) → i < length xs → x ≡ get_or xs i x → drop i xs ≡ x ∷ drop (i + 1) xs
+next_item {A} xs i x below is =
+    drop-cons xs i x below ∙ ap (λ (y : A). y ∷ drop (suc i) xs) (sym is) ∙ ap (λ k. x ∷ drop k xs) (sym (add-one i))
+
+-- the least of the failures that are left, after those of the next element
+pub next_fails : {A : Type 0} (f : A → List Failure) (F : List A → List Failure) (xs : List A) (i : ℕ) (x : A) (least new whole : Option Failure)
+    → ((y : A) (ys : List A) → F (y ∷ ys) ≡ f y ++ F ys) → i < length xs → x ≡ get_or xs i x
+    → new ≡ lowest least (f x) → lowest least (F (drop i xs)) ≡ whole → lowest new (F (drop (i + 1) xs)) ≡ whole
+next_fails f F xs i x least new whole goes below is here left =
+    ap (λ o. lowest o (F (drop (i + 1) xs))) here ∙ sym (lowest_append least (f x) (F (drop (i + 1) xs)))
+    ∙ ap (lowest least) (sym (goes x (drop (i + 1) xs))) ∙ ap (λ ys. lowest least (F ys)) (sym (next_item xs i x below is)) ∙ left

@@ -2,3 +2,4 @@ pub mod Finding
 pub mod Failing
 pub mod Walking
 pub mod Mapped
+pub mod Signalled

@@ -1,4 +1,5 @@
 pub mod Naming
 pub mod Resolve
-pub mod Views
 pub mod Spots
+pub mod Heads
+pub mod Views

@@ -1,6 +1,7 @@
 //! Names of interfaces' items, resolved types, and the hierarchy of the declared types.
 #![tactic(auto)]
 
+mod heads;
 mod index;
 mod item;
 mod numbers;
@@ -8,6 +9,7 @@ mod resolve;
 mod spot;
 mod walk;
 
+pub use heads::{Parts, exception_of};
 pub use index::{Index, Sight};
 pub use item::{Entry, ItemName, Referent, Sort};
 pub use numbers::Numbers;
