@@ -3,3 +3,4 @@ pub mod Resolve
 pub mod Spots
 pub mod Heads
 pub mod Views
+pub mod Texts

@@ -43,7 +43,7 @@ fn walk_formals(
     alloc: Global,
     formals: &[Formal],
     index: &Index,
-    sight: &Sight,
+    sight: &Sight<'_>,
     text: u32,
     least: &mut Option<Failure>,
 ) -> Result<Option<TyList>, AllocError>
@@ -63,7 +63,7 @@ fn walk_gives(
     alloc: Global,
     gives: &Option<TypeTree>,
     index: &Index,
-    sight: &Sight,
+    sight: &Sight<'_>,
     text: u32,
     least: &mut Option<Failure>,
 ) -> Result<Option<Option<Ty>>, AllocError>
@@ -85,7 +85,7 @@ fn walk_refs(
     alloc: Global,
     refs: &[RefTree],
     index: &Index,
-    sight: &Sight,
+    sight: &Sight<'_>,
     text: u32,
     least: &mut Option<Failure>,
 ) -> Result<(Vec<Spot>, Option<NumberList>), AllocError>
@@ -125,7 +125,7 @@ fn walk_signals(
     alloc: Global,
     refs: &[RefTree],
     index: &Index,
-    sight: &Sight,
+    sight: &Sight<'_>,
     text: u32,
     least: &mut Option<Failure>,
 ) -> Result<Option<NumberList>, AllocError>
@@ -157,7 +157,7 @@ pub fn walk_clause(
     alloc: Global,
     clause: &ClauseTree,
     index: &Index,
-    sight: &Sight,
+    sight: &Sight<'_>,
     text: u32,
     least: &mut Option<Failure>,
 ) -> Result<Option<Parts>, AllocError>
@@ -175,7 +175,7 @@ pub fn walk_clauses(
     alloc: Global,
     clauses: &[ClauseTree],
     index: &Index,
-    sight: &Sight,
+    sight: &Sight<'_>,
     text: u32,
     least: &mut Option<Failure>,
 ) -> Result<(), AllocError>
@@ -195,7 +195,7 @@ pub fn walk_head(
     gives: &Option<TypeTree>,
     signals: &[RefTree],
     index: &Index,
-    sight: &Sight,
+    sight: &Sight<'_>,
     text: u32,
     least: &mut Option<Failure>,
 ) -> Result<Option<Parts>, AllocError>

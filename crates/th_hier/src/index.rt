@@ -1,12 +1,15 @@
 //! The items of all interfaces by name, and what a reference means.
-ghost use Rattle.std.specs.Prelude.{◌≡◌};
+ghost use Rattle.std.specs.Prelude.{◌≡◌, map, IfOk};
+ghost use Rattle.th_tree.specs.DeclView.{interface_of};
+ghost use Rattle.th_hier.specs.Texts.{visible, within};
 ghost use Rattle.th_hier.specs.Naming.{is_number, item_at, item_in, own_or, bare_meaning, full_meaning, meaning};
 
 use crate::item::{Entry, ItemName, Referent};
 use crate::numbers::Numbers;
 use indexmap::IndexMap;
+use std::alloc::{AllocError, Global};
 use std::marker::Model;
-use th_tree::RefTree;
+use th_tree::{Ident, Interface, RefTree};
 
 /// The items of interfaces by name. A contract sees the list of the items with their names.
 #[derive(Drop)]
@@ -22,21 +25,71 @@ impl Model for Index {
     ghost view = { λ a. a.items.entries };
 }
 
-/// The names that can be seen at a place of a text.
+/// What can be seen in a text outside its items: the interface whose own items stand bare, the implemented interface, and the
+/// interfaces that are named after `uses`.
 #[derive(Drop)]
-pub struct Sight {
+pub struct Home {
     pub text: Option<u32>,
     pub implements: Option<u32>,
     pub uses: Numbers,
-    pub params: Numbers,
 }
 
-impl Model for Sight {
+impl Model for Home {
+    ghost use Rattle.std.specs.Prelude.{[]};
     ghost use Rattle.th_hier.specs.Naming.{Visible};
 
     ghost Value = { Visible };
 
-    ghost view = { λ a. record { text = a.text; implements = a.implements; uses = a.uses; params = a.params } };
+    ghost view = { λ a. record { text = a.text; implements = a.implements; uses = a.uses; params = [] } };
+}
+
+/// What can be seen in an item of a text: what can be seen outside its items, and its type parameters.
+#[derive(Drop)]
+pub struct Sight<'a> {
+    home: &'a Home,
+    params: Numbers,
+}
+
+impl<'a> Model for Sight<'a> {
+    ghost use Rattle.th_hier.specs.Naming.{Visible};
+
+    ghost Value = { Visible };
+
+    ghost view = { λ a. record { text = a.home.now.text; implements = a.home.now.implements; uses = a.home.now.uses; params = a.params } };
+}
+
+/// The numbers of the names.
+fn names_of(alloc: Global, names: &[Ident]) -> Result<Vec<u32>, AllocError>
+    ensures { IfOk result (λ r. r.items ≡ map (λ i. i.name) names.now) }
+{
+    names.iter().map(|name| name.name).collect(alloc)
+}
+
+impl Home {
+    /// What can be seen in an interface.
+    pub fn of(alloc: Global, interface: &Interface) -> Result<Self, AllocError>
+        ensures { IfOk result (λ h. h ≡ visible (interface_of interface.now)) }
+    {
+        let uses = names_of(alloc, &interface.uses)?;
+        Ok(Home {
+            text: Some(interface.name.name),
+            implements: None,
+            uses: Numbers::of(alloc, &uses)?,
+        })
+    }
+}
+
+impl<'a> Sight<'a> {
+    /// What can be seen in an item with these type parameters.
+    pub fn of(alloc: Global, home: &'a Home, params: &[Ident]) -> Result<Self, AllocError>
+        ensures { IfOk result (λ s. s ≡ within home.now params.now) }
+    {
+        let params = names_of(alloc, params)?;
+        Ok(Sight {
+            home,
+            params: Numbers::of(alloc, &params)?,
+        })
+    }
 }
 
 impl Index {
@@ -58,20 +111,27 @@ impl Index {
     }
 
     /// What a bare name means.
-    fn bare_meaning(&self, sight: &Sight, name: u32) -> Referent
+    fn bare_meaning(&self, sight: &Sight<'_>, name: u32) -> Referent
         ensures { result ≡ bare_meaning self.now sight.now name }
     {
         match sight.params.place(name) {
             Some(place) => Referent::Param(place),
-            None => item_meaning(self.get_in(sight.text, name), self.get_in(sight.implements, name)),
+            None => {
+                let home = sight.home;
+                item_meaning(
+                    self.get_in(home.text, name),
+                    self.get_in(home.implements, name),
+                )
+            }
         }
     }
 
     /// What `I$n` means.
-    fn full_meaning(&self, sight: &Sight, interface: u32, name: u32) -> Referent
+    fn full_meaning(&self, sight: &Sight<'_>, interface: u32, name: u32) -> Referent
         ensures { result ≡ full_meaning self.now sight.now interface name }
     {
-        if sight.uses.has(interface) || is_number(sight.implements, interface) {
+        let home = sight.home;
+        if home.uses.has(interface) || is_number(home.implements, interface) {
             item_meaning(self.get(ItemName { interface, name }), None)
         } else {
             Referent::Nothing
@@ -79,7 +139,7 @@ impl Index {
     }
 
     /// What a reference means.
-    pub fn meaning(&self, sight: &Sight, named: &RefTree) -> Referent
+    pub fn meaning(&self, sight: &Sight<'_>, named: &RefTree) -> Referent
         ensures { result ≡ meaning self.now sight.now named.now }
     {
         match named.second {

@@ -10,7 +10,7 @@ mod spot;
 mod walk;
 
 pub use heads::{Parts, exception_of};
-pub use index::{Index, Sight};
+pub use index::{Home, Index, Sight};
 pub use item::{Entry, ItemName, Referent, Sort};
 pub use numbers::Numbers;
 pub use spot::{Spot, judge_formals, judge_items, judge_methods, judge_params, judge_repeats};
