@@ -1,6 +1,7 @@
 -- Lists of failures one after another.
-use Rattle.std.proofs.Common.{◌≡◌, ℕ, suc, ◌+◌, ◌<◌, List, [], ◌∷◌, ◌++◌, length, get_or, drop, Option, refl, sym, ap, ◌∙◌, add-one, subst}
+use Rattle.std.proofs.Common.{◌≡◌, ℕ, suc, ◌+◌, ◌<◌, List, [], ◌∷◌, ◌++◌, length, get_or, map, drop, Option, refl, sym, ap, ◌∙◌, add-one, append_assoc}
 use Rattle.std.proofs.Math.Seq.{drop-cons}
+use Rattle.std.proofs.lemmas.List.{map-append}
 use Rattle.th_type.specs.declared.place.Failure.{Failure}
 use Rattle.th_type.specs.Failures.{lower, lowest}
 
@@ -21,3 +22,16 @@ pub next_fails : {A : Type 0} (f : A → List Failure) (F : List A → List Fail
 next_fails f F xs i x least new whole goes below is here left =
     ap (λ o. lowest o (F (drop (i + 1) xs))) here ∙ sym (lowest_append least (f x) (F (drop (i + 1) xs)))
     ∙ ap (lowest least) (sym (goes x (drop (i + 1) xs))) ∙ ap (λ ys. lowest least (F ys)) (sym (next_item xs i x below is)) ∙ left
+
+-- the list that is made, after what the next element gives
+pub next_list : {A B : Type 0} (g : A → List B) (G : List A → List B) (xs : List A) (i : ℕ) (x : A) (made new whole : List B)
+    → ((y : A) (ys : List A) → G (y ∷ ys) ≡ g y ++ G ys) → i < length xs → x ≡ get_or xs i x
+    → new ≡ made ++ g x → made ++ G (drop i xs) ≡ whole → new ++ G (drop (i + 1) xs) ≡ whole
+next_list {A} {B} g G xs i x made new whole goes below is here left =
+    ap (λ (m : List B). m ++ G (drop (i + 1) xs)) here ∙ append_assoc made (g x) (G (drop (i + 1) xs))
+    ∙ ap (λ (r : List B). made ++ r) (sym (goes x (drop (i + 1) xs))) ∙ ap (λ (ys : List A). made ++ G ys) (sym (next_item xs i x below is)) ∙ left
+
+-- what a list with one more element shows
+pub mapped_push : {A B : Type 0} (f : A → B) (old new : List A) (x : A) (y : B) → new ≡ old ++ x ∷ [] → f x ≡ y → map f new ≡ map f old ++ y ∷ []
+mapped_push {A} {B} f old new x y pushed shows =
+    ap (map f) pushed ∙ map-append f old (x ∷ []) ∙ ap (λ (z : B). map f old ++ z ∷ []) shows

@@ -5,6 +5,8 @@ use Rattle.th_type.specs.declared.ty.TyList.{TyList}
 use Rattle.th_type.specs.Types.{TypeExpr, TypeExprs, ty_of, tys_of, tys_onto}
 use Rattle.th_hier.specs.declared.heads.Parts.{Parts as TheParts}
 use Rattle.th_hier.specs.Heads.{Parts}
+use Rattle.th_type.specs.declared.sig.Sig.{Sig}
+use Rattle.th_type.specs.Signatures.{Signature, sig_of}
 
 -- a type, where there is one
 abbrev pub ty_opt : Option Ty → Option TypeExpr
@@ -35,3 +37,8 @@ parts_view p = record { formals = tys_of p.formals; gives = ty_opt p.gives; sign
 abbrev pub parts_opt : Option TheParts → Option Parts
 parts_opt None = None
 parts_opt (Some p) = Some (parts_view p)
+
+-- a signature, where there is one
+abbrev pub sig_opt : Option Sig → Option Signature
+sig_opt None = None
+sig_opt (Some s) = Some (sig_of s)

@@ -4,6 +4,7 @@
 mod heads;
 mod index;
 mod item;
+mod members;
 mod numbers;
 mod resolve;
 mod spot;
@@ -12,6 +13,7 @@ mod walk;
 pub use heads::{Parts, exception_of};
 pub use index::{Home, Index, Sight};
 pub use item::{Entry, ItemName, Referent, Sort};
+pub use members::{walk_sig, walk_sigs, walk_super, walk_supers};
 pub use numbers::Numbers;
 pub use spot::{Spot, judge_formals, judge_items, judge_methods, judge_params, judge_repeats};
 pub use walk::{walk_type, walk_types};
