@@ -59,7 +59,7 @@ fn walk_formals(
 }
 
 /// Judges a result or a yielded type.
-fn walk_gives(
+pub fn walk_gives(
     alloc: Global,
     gives: &Option<TypeTree>,
     index: &Index,

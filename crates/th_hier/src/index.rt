@@ -101,7 +101,7 @@ impl Index {
     }
 
     /// The item of that name of the interface, where there is an interface.
-    fn get_in(&self, interface: Option<u32>, name: u32) -> Option<Entry>
+    pub fn get_in(&self, interface: Option<u32>, name: u32) -> Option<Entry>
         ensures { result ≡ item_in self.now interface name }
     {
         match interface {

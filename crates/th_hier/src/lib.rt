@@ -4,6 +4,7 @@
 mod heads;
 mod index;
 mod item;
+mod judge;
 mod members;
 mod numbers;
 mod resolve;
@@ -15,5 +16,5 @@ pub use index::{Home, Index, Sight};
 pub use item::{Entry, ItemName, Referent, Sort};
 pub use members::{walk_sig, walk_sigs, walk_super, walk_supers};
 pub use numbers::Numbers;
-pub use spot::{Spot, judge_formals, judge_items, judge_methods, judge_params, judge_repeats};
+pub use spot::{Spot, judge_formals, judge_item_names, judge_methods, judge_params, judge_repeats};
 pub use walk::{walk_type, walk_types};
