@@ -231,7 +231,7 @@ fn judge_exception(
 }
 
 /// Judges an item, and puts the type that it declares last among the declared ones.
-fn judge_item(
+pub fn judge_item(
     alloc: Global,
     item: &InterfaceItem,
     index: &Index,

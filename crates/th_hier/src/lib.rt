@@ -9,6 +9,7 @@ mod members;
 mod numbers;
 mod resolve;
 mod spot;
+mod texts;
 mod walk;
 
 pub use heads::{Parts, exception_of};
@@ -17,4 +18,5 @@ pub use item::{Entry, ItemName, Referent, Sort};
 pub use members::{walk_sig, walk_sigs, walk_super, walk_supers};
 pub use numbers::Numbers;
 pub use spot::{Spot, judge_formals, judge_item_names, judge_methods, judge_params, judge_repeats};
+pub use texts::judge_names;
 pub use walk::{walk_type, walk_types};
