@@ -1,5 +1,6 @@
 -- Lists of failures one after another.
 use Rattle.std.proofs.Common.{◌≡◌, ℕ, suc, ◌+◌, ◌<◌, List, [], ◌∷◌, ◌++◌, length, get_or, map, drop, Option, refl, sym, ap, ◌∙◌, add-one, append_assoc}
+use Rattle.std.specs.Prelude.{Result, Ok, Err, OnOk}
 use Rattle.std.proofs.Math.Seq.{drop-cons}
 use Rattle.std.proofs.lemmas.List.{map-append}
 use Rattle.th_type.specs.declared.place.Failure.{Failure}
@@ -45,3 +46,8 @@ next_list g G xs i x made new whole goes below is here left = next_list_to g G G
 pub mapped_push : {A B : Type 0} (f : A → B) (old new : List A) (x : A) (y : B) → new ≡ old ++ x ∷ [] → f x ≡ y → map f new ≡ map f old ++ y ∷ []
 mapped_push {A} {B} f old new x y pushed shows =
     ap (map f) pushed ∙ map-append f old (x ∷ []) ∙ ap (λ (z : B). map f old ++ z ∷ []) shows
+
+-- what follows of an Ok
+pub on_ok : {A E P Q : Type 0} (r : Result A E) → (P → Q) → OnOk r P → OnOk r Q
+on_ok (Ok x) f h = f h
+on_ok (Err e) f h = tt

@@ -4,3 +4,4 @@ pub mod Spots
 pub mod Heads
 pub mod Views
 pub mod Texts
+pub mod Numbering

@@ -1,8 +1,10 @@
 //! The items of all interfaces by name, and what a reference means.
-ghost use Rattle.std.specs.Prelude.{◌≡◌, map, IfOk};
+ghost use Rattle.std.specs.Prelude.{◌≡◌, [], map, IfOk, OnOk};
+ghost use Rattle.th_hier.specs.Numbering.{full_numbers, with_item};
 ghost use Rattle.th_tree.specs.DeclView.{interface_of};
 ghost use Rattle.th_hier.specs.Texts.{visible, within};
-ghost use Rattle.th_hier.specs.Naming.{is_number, item_at, item_in, own_or, bare_meaning, full_meaning, meaning};
+ghost use Rattle.indexmap.specs.IndexMap.{insert_entry};
+ghost use Rattle.th_hier.specs.Naming.{is_number, same_item, item_at, item_in, own_or, bare_meaning, full_meaning, meaning};
 
 use crate::item::{Entry, ItemName, Referent};
 use crate::numbers::Numbers;
@@ -93,6 +95,38 @@ impl<'a> Sight<'a> {
 }
 
 impl Index {
+    /// No item.
+    pub fn new(alloc: Global) -> Self
+        ensures { result ≡ [] }
+    {
+        Index {
+            items: IndexMap::new(alloc),
+        }
+    }
+
+    /// Adds an item, unless an item has its name or its number; `fulls` are the numbers of the items' full names.
+    pub fn add(&mut self, fulls: &mut Numbers, name: ItemName, entry: Entry) -> Result<(), AllocError>
+        requires { fulls.old ≡ full_numbers self.old }
+        ensures items { OnOk result (self.new ≡ with_item self.old name entry) }
+        ensures fulls { OnOk result (fulls.new ≡ full_numbers self.new) }
+    {
+        if self.get(name).is_some() || fulls.has(entry.full) {
+            return Ok(());
+        }
+        fulls.add(entry.full)?;
+        self.insert(name, entry)
+    }
+
+    /// Puts the item where its name is, and last where it is nowhere.
+    fn insert(&mut self, name: ItemName, entry: Entry) -> Result<(), AllocError>
+        ensures { OnOk result (self.new ≡ insert_entry same_item self.old name entry) }
+    {
+        match self.items.insert(name, entry) {
+            Ok(_) => Ok(()),
+            Err(_) => Err(AllocError),
+        }
+    }
+
     /// The item with the name.
     pub fn get(&self, name: ItemName) -> Option<Entry>
         ensures { result ≡ item_at self.now name }

@@ -6,6 +6,7 @@ mod index;
 mod item;
 mod judge;
 mod members;
+mod numbering;
 mod numbers;
 mod resolve;
 mod spot;
