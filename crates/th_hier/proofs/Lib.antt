@@ -3,3 +3,4 @@ pub mod Failing
 pub mod Walking
 pub mod Mapped
 pub mod Signalled
+pub mod Growing

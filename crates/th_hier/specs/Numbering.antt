@@ -60,10 +60,14 @@ abbrev pub add_items : Numbering → ℕ → List InterfaceItemSyn → Numbering
 add_items s i [] = s
 add_items s i (x ∷ xs) = add_items (add_item s i x) i xs
 
--- with the items of interfaces, in order, each the first of its name
+-- with the items of an interface, unless its name is among `seen`
+abbrev pub add_interface : List ℕ → Numbering → InterfaceSyn → Numbering
+add_interface seen s f = if has seen f.name.name then s else add_items s f.name.name f.items
+
+-- with the items of interfaces, in order, each the first of its name and none whose name is among `seen`
 abbrev pub add_interfaces : List ℕ → Numbering → List InterfaceSyn → Numbering
 add_interfaces seen s [] = s
-add_interfaces seen s (f ∷ fs) = add_interfaces (with_number seen f.name.name) (if has seen f.name.name then s else add_items s f.name.name f.items) fs
+add_interfaces seen s (f ∷ fs) = add_interfaces (with_number seen f.name.name) (add_interface seen s f) fs
 
 -- the items of interfaces, and the table with their full names
 abbrev pub numbered_items : List (List ℕ) → List InterfaceSyn → Numbering

@@ -17,6 +17,7 @@ pub use heads::{Parts, exception_of};
 pub use index::{Home, Index, Sight};
 pub use item::{Entry, ItemName, Referent, Sort};
 pub use members::{walk_sig, walk_sigs, walk_super, walk_supers};
+pub use numbering::index_of;
 pub use numbers::Numbers;
 pub use spot::{Spot, judge_formals, judge_item_names, judge_methods, judge_params, judge_repeats};
 pub use texts::judge_names;
