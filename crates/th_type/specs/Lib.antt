@@ -1,8 +1,10 @@
 pub mod Lists
 pub mod Types
+pub mod Args
 pub mod Failures
 pub mod Signatures
 pub mod Declarations
 pub mod Subtypes
 pub mod Methods
 pub mod Rules
+pub mod Closure

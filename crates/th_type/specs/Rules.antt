@@ -6,7 +6,7 @@ use Rattle.th_type.specs.Failures.{place, failure, unless, IsLeastOf}
 use Rattle.th_type.specs.Lists.{IsIn, is_in}
 use Rattle.th_type.specs.Types.{TypeExpr, TypeExprs, named_ty, list_of, ty_height, ParamsBelow, AllParamsBelow}
 use Rattle.th_type.specs.Signatures.{Signature, find_sig}
-use Rattle.th_type.specs.Declarations.{Meant, unresolved, parameter, by_head, whole, SuperRef, WrittenSig, Declaration, DeclaredType, declared_type, declared_types, resolved}
+use Rattle.th_type.specs.Declarations.{Meant, unresolved, parameter, by_head, whole, SuperRef, WrittenSig, Declaration, DeclaredType, declared_type, declared_types, resolved, members_of}
 use Rattle.th_type.specs.Subtypes.{Reached, head_of}
 use Rattle.th_type.specs.Methods.{method_at, Conforms, SameSignature}
 
@@ -36,8 +36,7 @@ list_failures text seen (s ∷ ss) = member_failures text seen s.at s.meaning ++
 
 -- the declared types that the list of supertypes of the type n names; none where there is no such type
 abbrev pub names_up : List Declaration → ℕ → List ℕ
-names_up [] n = []
-names_up (d ∷ ds) n = if nat_eq d.name n then named d.supertypes else names_up ds n
+names_up ds n = named (members_of ds n)
 
 -- b is reached from a by name, in k steps
 abbrev pub NameClimbs : List Declaration → ℕ → ℕ → ℕ → Type 0
