@@ -5,3 +5,4 @@ pub mod Substitution
 pub mod Members
 pub mod Climb
 pub mod Closure
+pub mod Tables

@@ -52,9 +52,13 @@ super_of s = record { at = s.at; meaning = meant_of s.meaning }
 abbrev pub written_of : Written → WrittenSig
 written_of w = record { at = w.at; sig = sig_of w.sig }
 
+-- the code's declared type, under a number
+abbrev pub named_decl : ℕ → TypeDef → Declaration
+named_decl n d = record { name = n; params = d.params; place = d.place; supertypes = map super_of d.supertypes.items; methods = map written_of d.methods.items }
+
 -- the code's declared type
 abbrev pub decl_of : TypeDef → Declaration
-decl_of d = record { name = d.name; params = d.params; place = d.place; supertypes = map super_of d.supertypes.items; methods = map written_of d.methods.items }
+decl_of d = named_decl d.name d
 
 -- the code's declared types
 abbrev pub decls_of : List TypeDef → List Declaration

@@ -8,3 +8,4 @@ pub mod Subtypes
 pub mod Methods
 pub mod Rules
 pub mod Closure
+pub mod Tables

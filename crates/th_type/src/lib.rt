@@ -2,6 +2,8 @@
 #![tactic(auto)]
 
 
+mod above;
+mod defs;
 mod place;
 mod sig;
 mod ty;

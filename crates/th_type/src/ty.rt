@@ -2,9 +2,9 @@
 //!
 //! A list of types is empty, or a type and the rest. A type has a height of at most 600; a list may have any length, so
 //! that lists are walked and dropped by loops.
-ghost use Rattle.std.specs.Prelude.{◌≡◌, ◌-◌, ◌^◌, length, min, slice_get, map, option_map, IfOk, MatchOption, option_copied};
+ghost use Rattle.std.specs.Prelude.{◌≡◌, ◌-◌, ◌^◌, length, min, slice_get, map, option_map, IfOk, MatchOption, option_copied, IsTrue, ◌↔◌, ◌≤◌};
 ghost use Rattle.th_type.specs.Args.{args_items};
-ghost use Rattle.th_type.specs.Types.{ty_of, tys_of, list_of, tys_onto, subst_ty, subst_tys, same_ty, same_tys, arg_at, param_ty, ParamsBelow, AllParamsBelow};
+ghost use Rattle.th_type.specs.Types.{ty_of, tys_of, list_of, tys_onto, ty_height, tys_height, subst_ty, subst_tys, same_ty, same_tys, arg_at, param_ty, ParamsBelow, AllParamsBelow};
 
 use std::alloc::{AllocError, Global};
 use std::mem;
@@ -82,6 +82,37 @@ impl Ty {
             (Ty::Param(k), Ty::Param(l)) => *k == *l,
             _ => false,
         }
+    }
+}
+
+impl Ty {
+    /// Whether the height of the type is at most the limit.
+    #[cycle(heights)]
+    pub fn is_within(&self, limit: u32) -> bool
+        ensures { IsTrue result ↔ (ty_height (ty_of self.now) ≤ limit) }
+    {
+        match self {
+            Ty::Array(of) => limit > 0 && of.is_within(limit - 1),
+            Ty::Named(_, args) => limit > 0 && args.is_within(limit - 1),
+            _ => limit > 0,
+        }
+    }
+}
+
+impl TyList {
+    /// Whether the height of each type is at most the limit.
+    #[cycle(heights)]
+    pub fn is_within(&self, limit: u32) -> bool
+        ensures { IsTrue result ↔ (tys_height (tys_of self.now) ≤ limit) }
+    {
+        let mut rest = self;
+        while let TyList::MoreTy(first, next) = rest {
+            if !first.is_within(limit) {
+                return false;
+            }
+            rest = next;
+        }
+        true
     }
 }
 
