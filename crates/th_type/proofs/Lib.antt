@@ -3,6 +3,9 @@ pub mod Least
 pub mod Same
 pub mod Substitution
 pub mod Members
-pub mod Climb
+pub mod Subtyping
 pub mod Closure
 pub mod Tables
+pub mod Resolved
+pub mod Taken
+pub mod Climbing

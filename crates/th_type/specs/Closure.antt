@@ -1,8 +1,8 @@
 -- What a list of supertypes holds on the way to all that a type reaches.
 use Rattle.std.specs.Prelude.{◌≡◌, ◌≢◌, ℕ, ◌+◌, ◌<◌, ◌≤◌, Bool, false, nat_eq, ◌⊎◌, List, [], ◌∷◌, length, map, slice_get, Option, Some, None, if◌then◌else◌}
 use Rattle.th_type.specs.Lists.{IsIn}
-use Rattle.th_type.specs.Types.{TypeExpr, TypeExprs, int_ty, bool_ty, text_ty, array_ty, named_ty, param_ty, ty_height}
-use Rattle.th_type.specs.Declarations.{DeclaredType, supers_of}
+use Rattle.th_type.specs.Types.{TypeExpr, TypeExprs, int_ty, bool_ty, text_ty, array_ty, named_ty, param_ty, list_of, subst_ty, ty_height}
+use Rattle.th_type.specs.Declarations.{Meant, SuperRef, types_meant, resolved, DeclaredType, supers_of}
 use Rattle.th_type.specs.Subtypes.{Reached, head_of, parents}
 
 -- whether the type is the declared type n with some arguments
@@ -67,3 +67,11 @@ pub record Climbed (D : List DeclaredType) (n : ℕ) (xs : List TypeExpr) : Type
   pub one : OneEach xs
   pub low : (t : TypeExpr) → IsIn t xs → ty_height t ≤ 600
   pub heads : HeadsAmong (map (λ d. d.name) D) xs
+
+-- the types of a member of a list of supertypes, with arguments substituted: one or none
+abbrev pub taken : TypeExprs → Meant → List TypeExpr
+taken args m = map (subst_ty (list_of args)) (types_meant m)
+
+-- the types of a list of supertypes, with arguments substituted
+abbrev pub all_taken : TypeExprs → List SuperRef → List TypeExpr
+all_taken args ss = map (subst_ty (list_of args)) (resolved ss)

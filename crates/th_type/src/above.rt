@@ -1,5 +1,5 @@
 //! The supertypes that a declared type reaches.
-ghost use Rattle.std.specs.Prelude.{◌≡◌, ◌∷◌, ◌++◌, [], length, slice_get, map, option_map, IfOk, None};
+ghost use Rattle.std.specs.Prelude.{◌≡◌, ◌∷◌, ◌++◌, [], length, slice_get, map, option_map, IfOk, None, Some, ◌<◌};
 ghost use Rattle.th_type.specs.Types.{named_ty, tys_of};
 ghost use Rattle.th_type.specs.Tables.{above_of};
 ghost use Rattle.th_type.specs.Closure.{find_head};
@@ -39,19 +39,16 @@ impl Above {
     }
 
     /// The number and a copy of the arguments of the type at place `k`.
-    pub(crate) fn copy_at(
-        &self,
-        alloc: Global,
-        k: usize,
-    ) -> Result<Option<(u32, TyList)>, AllocError>
-        ensures { IfOk result (λ r. option_map (λ e. named_ty e.0 (tys_of e.1)) r ≡ slice_get (above_of self.now) k) }
+    pub(crate) fn copy_at(&self, alloc: Global, k: usize) -> Result<(u32, TyList), AllocError>
+        requires { k < length (above_of self.now) }
+        ensures { IfOk result (λ e. slice_get (above_of self.now) k ≡ Some (named_ty e.0 (tys_of e.1))) }
     {
         match self.map.get_index(k) {
             Some((name, args)) => {
                 let args = args.try_clone(alloc)?;
-                Ok(Some((*name, args)))
+                Ok((*name, args))
             }
-            None => Ok(None),
+            None => unreachable!(),
         }
     }
 

@@ -3,6 +3,7 @@
 
 
 mod above;
+mod climb;
 mod defs;
 mod place;
 mod sig;
