@@ -9,3 +9,4 @@ pub mod Tables
 pub mod Resolved
 pub mod Taken
 pub mod Climbing
+pub mod Noting

@@ -9,3 +9,4 @@ pub mod Methods
 pub mod Rules
 pub mod Closure
 pub mod Tables
+pub mod Cycles

@@ -106,12 +106,12 @@ abbrev pub NamesDiffer : List Declaration → Type 0
 NamesDiffer [] = Unit {0}
 NamesDiffer (d ∷ ds) = ((e : Declaration) → IsIn e ds → d.name ≢ e.name) × NamesDiffer ds
 
--- a member that resolves whole names one of the declared types, has as many arguments as it has parameters, and each
--- parameter in them is below n
+-- a member that names a declared type names one of the list; where it resolves whole it has as many arguments as that
+-- has parameters, and each parameter in them is below n
 abbrev pub MemberFits : List Declaration → ℕ → Meant → Type 0
 MemberFits ds n unresolved = Unit {0}
 MemberFits ds n parameter = Unit {0}
-MemberFits ds n (by_head m) = Unit {0}
+MemberFits ds n (by_head m) = (e : Declaration) × IsIn e ds × (e.name ≡ m)
 MemberFits ds n (whole m args) = ((e : Declaration) × IsIn e ds × (e.name ≡ m) × (length (list_of args) ≡ e.params)) × AllParamsBelow n args
 
 -- what a signature gives has only parameters below n

@@ -4,6 +4,7 @@
 
 mod above;
 mod climb;
+mod cycles;
 mod defs;
 mod place;
 mod sig;
