@@ -1,12 +1,13 @@
 -- What is taken into a list of supertypes, and that the list is whole at the end.
 use Rattle.std.proofs.Common.{◌≡◌, ◌≢◌, ◌∙◌, ℕ, zero, suc, ◌+◌, ◌<◌, ◌≤◌, Bool, true, false, nat_eq, List, [], ◌∷◌, ◌++◌, length, map, slice_get, Option, Some, None, refl, ap, sym, subst, ◌⊎◌, inl, inr, arith, if◌then◌else◌, length-append}
+use Rattle.std.proofs.lemmas.List.{length-map}
 use Rattle.std.proofs.lemmas.Bool.Decides.{nat_tests}
 use Rattle.th_type.specs.Lists.{IsIn}
 use Rattle.th_type.specs.Types.{TypeExpr, TypeExprs, int_ty, bool_ty, text_ty, array_ty, named_ty, param_ty, list_of, subst_ty, ty_height}
 use Rattle.th_type.specs.Declarations.{DeclaredType, supers_of}
 use Rattle.th_type.specs.Subtypes.{parents, Climbs, Subtype, Reached, head_of}
 use Rattle.th_type.specs.Rules.{HasTwo, IsHigh}
-use Rattle.th_type.specs.Closure.{is_head, find_head, OneEach, one_if_none, left, HeadsAmong, Took, Clashes, Climbing, Climbed}
+use Rattle.th_type.specs.Closure.{is_head, find_head, OneEach, one_if_none, left, Distinct, HeadsAmong, Took, Clashes, Climbing, Climbed}
 use Rattle.th_type.proofs.Members.{in_left, in_right, from_append, in_at, at_in, place_in, in_within}
 
 -- what find_head finds
@@ -55,28 +56,35 @@ find_last : (n : ℕ) (args : TypeExprs) (us : List TypeExpr) → find_head us n
 find_last n args [] h = rw (is_head_self n args) refl
 find_last n args (u ∷ us) h = find_last_if n (named_ty n args) u us (is_head n u) (find_last n args us) h
 
-one_less : (n : ℕ) (xs ys : List TypeExpr) (o : Option TypeExpr) → find_head xs n ≡ o → one_if_none (find_head (xs ++ ys) n) ≤ one_if_none o
-one_less n xs ys None e = most_one (find_head (xs ++ ys) n) where
-  most_one : (o : Option TypeExpr) → one_if_none o ≤ 1
-  most_one None = omega arith
-  most_one (Some t) = omega arith
-one_less n xs ys (Some t) e = rw (find_more n t xs ys e) (omega arith)
+find_other_if : (m n : ℕ) (args : TypeExprs) (u : TypeExpr) (us : List TypeExpr) (b : Bool) → one_if_none (find_head (us ++ named_ty n args ∷ []) m) ≡ one_if_none (find_head us m) → one_if_none (if b then Some u else find_head (us ++ named_ty n args ∷ []) m) ≡ one_if_none (if b then Some u else find_head us m)
+find_other_if m n args u us true r = refl
+find_other_if m n args u us false r = r
 
-left_less : (ns : List ℕ) (xs ys : List TypeExpr) → left ns (xs ++ ys) ≤ left ns xs
-left_less [] xs ys = omega arith
-left_less (n ∷ ns) xs ys = let a = one_less n xs ys (find_head xs n) refl in let b = left_less ns xs ys in omega (arith, a, b)
+is_head_other : (m n : ℕ) (args : TypeExprs) → (m ≡ n → ⊥) → is_head m (named_ty n args) ≡ false
+is_head_other m n args h = by (nat_eq m n) refl where
+  by : (b : Bool) → nat_eq m n ≡ b → nat_eq m n ≡ false
+  by true e = let s : m ≡ n = grind (arith, nat_tests) in absurd (h s)
+  by false e = e
+
+find_other : (m n : ℕ) (args : TypeExprs) (us : List TypeExpr) → (m ≡ n → ⊥) → one_if_none (find_head (us ++ named_ty n args ∷ []) m) ≡ one_if_none (find_head us m)
+find_other m n args [] h = rw (is_head_other m n args h) refl
+find_other m n args (u ∷ us) h = find_other_if m n args u us (is_head m u) (find_other m n args us h)
+
+left_other : (ns : List ℕ) (n : ℕ) (args : TypeExprs) (xs : List TypeExpr) → (IsIn n ns → ⊥) → left ns (xs ++ named_ty n args ∷ []) ≡ left ns xs
+left_other [] n args xs h = refl
+left_other (m ∷ ns) n args xs h = rw (find_other m n args xs (λ s. h (inl (sym s))), left_other ns n args xs (λ i. h (inr i))) refl
 
 -- a new declared type leaves one fewer
-left_push : (ns : List ℕ) (n : ℕ) (args : TypeExprs) (xs : List TypeExpr) → IsIn n ns → find_head xs n ≡ None → left ns (xs ++ named_ty n args ∷ []) + 1 ≤ left ns xs
-left_push [] n args xs i e = absurd i
-left_push (m ∷ ns) n args xs (inl s) e =
+left_push : (ns : List ℕ) (n : ℕ) (args : TypeExprs) (xs : List TypeExpr) → Distinct ns → IsIn n ns → find_head xs n ≡ None → left ns (xs ++ named_ty n args ∷ []) + 1 ≡ left ns xs
+left_push [] n args xs w i e = absurd i
+left_push (m ∷ ns) n args xs w (inl s) e =
     let a : one_if_none (find_head (xs ++ named_ty n args ∷ []) m) ≡ 0 = rw (sym s) (rw (find_last n args xs e) refl) in
     let b : one_if_none (find_head xs m) ≡ 1 = rw (sym s) (rw e refl) in
-    let l = left_less ns xs (named_ty n args ∷ []) in
+    let l = left_other ns n args xs (λ i. w.0 (subst (λ k. IsIn k ns) s i)) in
     omega (arith, a, b, l)
-left_push (m ∷ ns) n args xs (inr i) e =
-    let a = one_less m xs (named_ty n args ∷ []) (find_head xs m) refl in
-    let b = left_push ns n args xs i e in
+left_push (m ∷ ns) n args xs w (inr i) e =
+    let a = find_other m n args xs (λ s. w.0 (subst (λ k. IsIn k ns) (sym s) i)) in
+    let b = left_push ns n args xs w.1 i e in
     omega (arith, a, b)
 
 get_more : (k : ℕ) (t : TypeExpr) (xs ys : List TypeExpr) → slice_get xs k ≡ Some t → slice_get (xs ++ ys) k ≡ Some t
@@ -93,7 +101,7 @@ took_none xs = record {
   low = λ t i. absurd i;
   one = λ o. o;
   grown = omega arith;
-  fewer = λ ns h. omega arith;
+  count = λ ns w h. refl;
 }
 
 one_push : (n : ℕ) (args : TypeExprs) (xs : List TypeExpr) → find_head xs n ≡ None → OneEach xs → OneEach (xs ++ named_ty n args ∷ [])
@@ -118,13 +126,13 @@ took_push n args xs e h = record {
   low = λ t i. elim i [ inl s ↦ subst (λ t. ty_height t ≤ 600) (sym s) h | inr z ↦ absurd z ];
   one = one_push n args xs e;
   grown = let l : length (xs ++ named_ty n args ∷ []) ≡ length xs + 1 = length-append xs (named_ty n args ∷ []) in omega (arith, l);
-  fewer = λ ns a. fewer_push ns (a (named_ty n args) (inl refl));
+  count = λ ns w a. count_push ns w (a (named_ty n args) (inl refl));
 } where
-  fewer_push : (ns : List ℕ) → (m : ℕ) × (bs : TypeExprs) × (named_ty n args ≡ named_ty m bs) × IsIn m ns → left ns (xs ++ named_ty n args ∷ []) + length (xs ++ named_ty n args ∷ []) ≤ left ns xs + length xs
-  fewer_push ns (m, bs, s, i) =
+  count_push : (ns : List ℕ) → Distinct ns → (m : ℕ) × (bs : TypeExprs) × (named_ty n args ≡ named_ty m bs) × IsIn m ns → left ns (xs ++ named_ty n args ∷ []) + length (xs ++ named_ty n args ∷ []) ≡ left ns xs + length xs
+  count_push ns w (m, bs, s, i) =
       let q : m ≡ n = cc in
       let l : length (xs ++ named_ty n args ∷ []) ≡ length xs + 1 = length-append xs (named_ty n args ∷ []) in
-      let p = left_push ns n args xs (subst (λ k. IsIn k ns) q i) e in
+      let p = left_push ns n args xs w (subst (λ k. IsIn k ns) q i) e in
       omega (arith, l, p)
 
 -- a declared type that stands in the list with the same arguments is there
@@ -136,7 +144,7 @@ took_known n args xs e h = record {
   low = λ t i. elim i [ inl s ↦ subst (λ t. ty_height t ≤ 600) (sym s) h | inr z ↦ absurd z ];
   one = λ o. o;
   grown = omega arith;
-  fewer = λ ns a. omega arith;
+  count = λ ns w a. refl;
 }
 
 heads_left : (ns : List ℕ) (ps qs : List TypeExpr) → HeadsAmong ns (ps ++ qs) → HeadsAmong ns ps
@@ -157,7 +165,7 @@ took_then xs ps ys qs zs a b = record {
   low = λ t i. elim (from_append t ps qs i) [ inl j ↦ a.low t j | inr j ↦ b.low t j ];
   one = λ o. b.one (a.one o);
   grown = let m = a.grown in let n = b.grown in omega (arith, m, n);
-  fewer = λ ns h. let m = a.fewer ns (heads_left ns ps qs h) in let n = b.fewer ns (heads_right ns ps qs h) in omega (arith, m, n);
+  count = λ ns w h. let m = a.count ns w (heads_left ns ps qs h) in let n = b.count ns w (heads_right ns ps qs h) in omega (arith, m, n);
 }
 
 pub clash_high : (t : TypeExpr) (xs : List TypeExpr) → 600 < ty_height t → Clashes xs (t ∷ [])
@@ -190,8 +198,12 @@ names : List DeclaredType → List ℕ
 names D = map (λ d. d.name) D
 
 -- the list at the start
-pub climbing_start : (D : List DeclaredType) (n : ℕ) (ys : List TypeExpr) → HeadsAmong (map (λ d. d.name) D) (supers_of D n) → Took [] (supers_of D n) ys → Climbing D n ys 0
-climbing_start D n ys h a = record {
+left_none : (ns : List ℕ) → left ns [] ≡ length ns
+left_none [] = refl
+left_none (n ∷ ns) = let h = left_none ns in omega (arith, h)
+
+pub climbing_start : (D : List DeclaredType) (n : ℕ) (ys : List TypeExpr) → Distinct (map (λ d. d.name) D) → HeadsAmong (map (λ d. d.name) D) (supers_of D n) → Took [] (supers_of D n) ys → Climbing D n ys 0
+climbing_start D n ys w h a = record {
   sound = λ t i. elim (a.sound t i) [ inl j ↦ absurd j | inr j ↦ (t, j, (zero, refl)) ];
   base = a.all;
   closed = λ k t l. absurd (omega (arith, l));
@@ -199,6 +211,7 @@ climbing_start D n ys h a = record {
   low = λ t i. elim (a.sound t i) [ inl j ↦ absurd j | inr j ↦ a.low t j ];
   within = omega arith;
   heads = λ t i. elim (a.sound t i) [ inl j ↦ absurd j | inr j ↦ h t j ];
+  count = let m = a.count (map (λ d. d.name) D) w h in let l = left_none (map (λ d. d.name) D) in let q : length (map (λ d. d.name) D) ≡ length D = length-map D (λ d. d.name) in omega (arith, m, l, q);
 }
 
 closed_step : (D : List DeclaredType) (n : ℕ) (xs ys : List TypeExpr) (i : ℕ) (t : TypeExpr) → Climbing D n xs i → slice_get xs i ≡ Some t → Took xs (parents D t) ys
@@ -220,8 +233,8 @@ closed_step D n xs ys i t c g a k v l e u j = by (nat_eq k i) refl where
   by false h = earlier (grind (arith, nat_tests))
 
 -- the list after the supertypes of a further member were taken
-pub climbing_step : (D : List DeclaredType) (n : ℕ) (xs ys : List TypeExpr) (i : ℕ) (t : TypeExpr) → HeadsAmong (map (λ d. d.name) D) (parents D t) → Climbing D n xs i → slice_get xs i ≡ Some t → Took xs (parents D t) ys → Climbing D n ys (i + 1)
-climbing_step D n xs ys i t h c g a =
+pub climbing_step : (D : List DeclaredType) (n : ℕ) (xs ys : List TypeExpr) (i : ℕ) (t : TypeExpr) → Distinct (map (λ d. d.name) D) → HeadsAmong (map (λ d. d.name) D) (parents D t) → Climbing D n xs i → slice_get xs i ≡ Some t → Took xs (parents D t) ys → Climbing D n ys (i + 1)
+climbing_step D n xs ys i t w h c g a =
     let j : IsIn t xs = at_in t xs i g in
     record {
       sound = λ u m. elim (a.sound u m) [ inl o ↦ c.sound u o | inr o ↦ reached_more D n t u (c.sound t j) o ];
@@ -231,6 +244,7 @@ climbing_step D n xs ys i t h c g a =
       low = λ u m. elim (a.sound u m) [ inl o ↦ c.low u o | inr o ↦ a.low u o ];
       within = let p = in_within t xs i g in let q = a.grown in omega (arith, p, q);
       heads = λ u m. elim (a.sound u m) [ inl o ↦ c.heads u o | inr o ↦ h u o ];
+      count = let m = a.count (map (λ d. d.name) D) w h in let l = c.count in omega (arith, m, l);
     }
 
 reach_all : (D : List DeclaredType) (n : ℕ) (xs : List TypeExpr) (i : ℕ) → Climbing D n xs i → length xs ≤ i → (k : ℕ) (t u : TypeExpr) → IsIn t xs → Climbs D k t u → IsIn u xs
@@ -247,6 +261,7 @@ climbing_done D n xs i c l = record {
   one = c.one;
   low = c.low;
   heads = c.heads;
+  count = c.count;
 }
 
 clash_of : (D : List DeclaredType) (n : ℕ) (xs ps : List TypeExpr) → ((t : TypeExpr) → IsIn t xs ⊎ IsIn t ps → Reached D n t) → Clashes xs ps → HasTwo D n ⊎ IsHigh D n

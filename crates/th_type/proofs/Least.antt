@@ -15,7 +15,7 @@ before_up_to f g h = grind (arith, nat_tests)
 not_before_up_to : (f g : Failure) → before f g ≡ false → UpTo g f
 not_before_up_to f g h = grind (arith, nat_tests)
 
-up_to_self : (f : Failure) → UpTo f f
+pub up_to_self : (f : Failure) → UpTo f f
 up_to_self f = inr (refl, inr (refl, omega arith))
 
 up_to_same : (f g : Failure) → g ≡ f → UpTo f g

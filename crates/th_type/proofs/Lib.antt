@@ -10,3 +10,4 @@ pub mod Resolved
 pub mod Taken
 pub mod Climbing
 pub mod Noting
+pub mod Judging

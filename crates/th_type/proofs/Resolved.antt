@@ -7,7 +7,7 @@ use Rattle.th_type.specs.Types.{TypeExpr, TypeExprs, int_ty, bool_ty, text_ty, a
 use Rattle.th_type.specs.Declarations.{Meant, unresolved, parameter, by_head, whole, SuperRef, Declaration, DeclaredType, declared_type, declared_types, types_meant, resolved, find_decl, find_type, members_in, members_of, supertypes_in, supers_of, params_in, params_of}
 use Rattle.th_type.specs.Subtypes.{parents}
 use Rattle.th_type.specs.Rules.{NamesDiffer, MemberFits, WellFormed}
-use Rattle.th_type.specs.Closure.{HeadsAmong}
+use Rattle.th_type.specs.Closure.{Distinct, HeadsAmong}
 use Rattle.th_type.proofs.Members.{in_map, from_map, from_append}
 use Rattle.th_type.proofs.Subtyping.{Fits, Saturated}
 
@@ -130,3 +130,14 @@ well_formed_fits ds w = record {
       let p = meaning_at ds w n t h in
       let m = p.2 in
       subst (λ k. ParamsBelow k t) (sym (params_found ds n p.0 p.1)) (subst (λ t. ParamsBelow p.0.params t) (sym m.is) m.below)
+
+name_among : (n : ℕ) (ds : List Declaration) → IsIn n (map (λ d. d.name) (declared_types ds)) → (d : Declaration) × IsIn d ds × (d.name ≡ n)
+name_among n ds i =
+    let p = from_map (λ d. d.name) n (declared_types ds) i in
+    let q = from_map declared_type p.0 ds p.1 in
+    (q.0, q.1, ap (λ d. d.name) (sym q.2) ∙ sym p.2)
+
+-- no number stands twice among those of the declared types
+pub distinct_names : (ds : List Declaration) → NamesDiffer ds → Distinct (map (λ d. d.name) (declared_types ds))
+distinct_names [] h = tt
+distinct_names (d ∷ ds) h = ((λ i. let p = name_among d.name ds i in h.0 p.0 p.1 (sym p.2)), distinct_names ds h.1)

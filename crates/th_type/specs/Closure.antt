@@ -32,6 +32,11 @@ abbrev pub left : List ℕ → List TypeExpr → ℕ
 left [] xs = 0
 left (n ∷ ns) xs = one_if_none (find_head xs n) + left ns xs
 
+-- no number stands twice in the list
+abbrev pub Distinct : List ℕ → Type 0
+Distinct [] = Unit {0}
+Distinct (n ∷ ns) = (IsIn n ns → ⊥) × Distinct ns
+
 -- each type of the list is one of the declared types with some arguments
 abbrev pub HeadsAmong : List ℕ → List TypeExpr → Type 0
 HeadsAmong ns ps = (t : TypeExpr) → IsIn t ps → (n : ℕ) × (args : TypeExprs) × (t ≡ named_ty n args) × IsIn n ns
@@ -44,7 +49,7 @@ pub record Took (xs ps ys : List TypeExpr) : Type 0 where
   pub low : (t : TypeExpr) → IsIn t ps → ty_height t ≤ 600
   pub one : OneEach xs → OneEach ys
   pub grown : length xs ≤ length ys
-  pub fewer : (ns : List ℕ) → HeadsAmong ns ps → left ns ys + length ys ≤ left ns xs + length xs
+  pub count : (ns : List ℕ) → Distinct ns → HeadsAmong ns ps → left ns ys + length ys ≡ left ns xs + length xs
 
 -- one of the types ps is too high, or is a declared type that another of them or of the list xs is with other arguments
 abbrev pub Clashes : List TypeExpr → List TypeExpr → Type 0
@@ -59,6 +64,7 @@ pub record Climbing (D : List DeclaredType) (n : ℕ) (xs : List TypeExpr) (i : 
   pub low : (t : TypeExpr) → IsIn t xs → ty_height t ≤ 600
   pub within : i ≤ length xs
   pub heads : HeadsAmong (map (λ d. d.name) D) xs
+  pub count : left (map (λ d. d.name) D) xs + length xs ≡ length D
 
 -- the list has just the types that n reaches, each declared type once, none of a height above 600
 pub record Climbed (D : List DeclaredType) (n : ℕ) (xs : List TypeExpr) : Type 0 where
@@ -67,6 +73,7 @@ pub record Climbed (D : List DeclaredType) (n : ℕ) (xs : List TypeExpr) : Type
   pub one : OneEach xs
   pub low : (t : TypeExpr) → IsIn t xs → ty_height t ≤ 600
   pub heads : HeadsAmong (map (λ d. d.name) D) xs
+  pub count : left (map (λ d. d.name) D) xs + length xs ≡ length D
 
 -- the types of a member of a list of supertypes, with arguments substituted: one or none
 abbrev pub taken : TypeExprs → Meant → List TypeExpr

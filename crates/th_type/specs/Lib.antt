@@ -10,3 +10,4 @@ pub mod Rules
 pub mod Closure
 pub mod Tables
 pub mod Cycles
+pub mod Judged

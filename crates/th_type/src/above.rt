@@ -1,5 +1,6 @@
 //! The supertypes that a declared type reaches.
-ghost use Rattle.std.specs.Prelude.{◌≡◌, ◌∷◌, ◌++◌, [], length, slice_get, map, option_map, IfOk, None, Some, ◌<◌};
+ghost use Rattle.std.specs.Prelude.{◌≡◌, ◌∷◌, ◌++◌, [], length, slice_get, map, option_map, IfOk, None, Some, ◌<◌, nat_eq, option_copied};
+ghost use Rattle.std.specs.Map.{lookup};
 ghost use Rattle.th_type.specs.Types.{named_ty, tys_of};
 ghost use Rattle.th_type.specs.Tables.{above_of};
 ghost use Rattle.th_type.specs.Closure.{find_head};
@@ -58,6 +59,41 @@ impl Above {
         ensures { IfOk result (λ _. above_of self.new ≡ above_of self.old ++ named_ty name (tys_of args) ∷ []) }
     {
         match self.map.insert(name, args) {
+            Ok(_) => Ok(()),
+            Err(_) => Err(AllocError),
+        }
+    }
+}
+
+/// For each declared type the supertypes that it reaches.
+#[derive(Drop)]
+pub(crate) struct Ancestors {
+    pub(crate) map: IndexMap<u32, Above>,
+}
+
+impl Ancestors {
+    /// No declared types.
+    pub(crate) fn new(alloc: Global) -> Ancestors
+        ensures { result.map.entries ≡ [] }
+    {
+        Ancestors {
+            map: IndexMap::new(alloc),
+        }
+    }
+
+    /// The supertypes that the declared type with the number reaches; None where it is not there.
+    pub(crate) fn find(&self, name: u32) -> Option<&Above>
+        ensures { option_copied result ≡ lookup (nat_eq name) self.now.map.entries }
+    {
+        self.map.get(&name)
+    }
+
+    /// Puts a declared type that is not there last.
+    pub(crate) fn put(&mut self, name: u32, above: Above) -> Result<(), AllocError>
+        requires { lookup (nat_eq name) self.old.map.entries ≡ None }
+        ensures { IfOk result (λ _. self.new.map.entries ≡ self.old.map.entries ++ (name, above) ∷ []) }
+    {
+        match self.map.insert(name, above) {
             Ok(_) => Ok(()),
             Err(_) => Err(AllocError),
         }

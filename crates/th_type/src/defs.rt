@@ -1,5 +1,5 @@
 //! Declared types by their numbers.
-ghost use Rattle.std.specs.Prelude.{◌≡◌, ◌∷◌, ◌++◌, [], map, option_map, IfOk, None};
+ghost use Rattle.std.specs.Prelude.{◌≡◌, ◌∷◌, ◌++◌, [], map, option_map, length, slice_get, IfOk, None, Some, ◌<◌};
 ghost use Rattle.th_type.specs.Declarations.{named_decl, decl_of, decls_of, super_of, find_decl, members_of};
 ghost use Rattle.th_type.specs.Tables.{defs_of, entry_decl};
 ghost use Rattle.th_type.specs.Rules.{NamesDiffer};
@@ -52,6 +52,24 @@ impl Defs {
         match self.find(name) {
             Some(def) => &def.supertypes,
             None => &[],
+        }
+    }
+
+    /// How many declared types there are.
+    pub(crate) fn len(&self) -> usize
+        ensures { result ≡ length (defs_of self.now) }
+    {
+        self.map.len()
+    }
+
+    /// The number of the declared type at place `k`, and the type.
+    pub(crate) fn at(&self, k: usize) -> (u32, &TypeDef)
+        requires { k < length (defs_of self.now) }
+        ensures { slice_get (defs_of self.now) k ≡ Some (named_decl result.0 result.1.now) }
+    {
+        match self.map.get_index(k) {
+            Some((name, def)) => (*name, def),
+            None => unreachable!(),
         }
     }
 }

@@ -6,6 +6,7 @@ mod above;
 mod climb;
 mod cycles;
 mod defs;
+mod judge;
 mod place;
 mod sig;
 mod ty;
