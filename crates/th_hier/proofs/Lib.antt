@@ -4,3 +4,4 @@ pub mod Walking
 pub mod Mapped
 pub mod Signalled
 pub mod Growing
+pub mod Below

@@ -2,6 +2,7 @@
 #![tactic(auto)]
 
 mod heads;
+mod hierarchy;
 mod index;
 mod item;
 mod judge;
