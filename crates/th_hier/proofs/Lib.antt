@@ -5,3 +5,5 @@ pub mod Mapped
 pub mod Signalled
 pub mod Growing
 pub mod Below
+pub mod Keeping
+pub mod Founded
