@@ -7,3 +7,4 @@ pub mod Growing
 pub mod Below
 pub mod Keeping
 pub mod Founded
+pub mod Fitting

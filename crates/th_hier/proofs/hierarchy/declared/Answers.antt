@@ -1,7 +1,12 @@
-use Rattle.th_hier.proofs.Below.{type_below, types_below, types_count, more_below}
-use Rattle.th_hier.proofs.Keeping.{firsts_differ}
-use Rattle.th_hier.proofs.Founded.{numbered_founded, same_by_full}
+use Rattle.std.proofs.Common.{List, ◌∙◌, ap, sym, subst, map}
+use Rattle.th_tree.specs.DeclView.{interface_of}
+use Rattle.th_type.specs.Declarations.{Declaration}
+use Rattle.th_type.specs.Rules.{WellFormed}
+use Rattle.th_hier.specs.Numbering.{Numbering}
+use Rattle.th_hier.proofs.Fitting.{declared_fit}
 use Rattle.th_hier.proofs.hierarchy.declared.Goals as goal
 
 pub returns-clause-fit : goal.returns-clause-fit
-returns-clause-fit c = ?
+returns-clause-fit c =
+    subst WellFormed (sym c.in_ok-types.ensures.types)
+    (declared_fit c.args.names.now (map interface_of c.args.interfaces.now) c.in_ok-index.index (ap (λ (s : Numbering). s.items) c.in_ok-index.ensures.items))
