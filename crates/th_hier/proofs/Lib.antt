@@ -8,3 +8,4 @@ pub mod Below
 pub mod Keeping
 pub mod Founded
 pub mod Fitting
+pub mod Exact

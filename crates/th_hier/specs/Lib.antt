@@ -5,3 +5,4 @@ pub mod Heads
 pub mod Views
 pub mod Texts
 pub mod Numbering
+pub mod Scopes

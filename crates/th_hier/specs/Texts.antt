@@ -18,9 +18,13 @@ use Rattle.th_hier.specs.Resolve.{count, type_name_fails, types_fails, resolved_
 use Rattle.th_hier.specs.Spots.{repeats, spots, sig_spots, item_spots, interface_spots}
 use Rattle.th_hier.specs.Heads.{gives_fails, head_fails, clauses_fail, signature_of}
 
+-- what can be seen in an item with type parameters of these names
+abbrev pub with_params : Visible → List ℕ → Visible
+with_params v ns = record { text = v.text; implements = v.implements; uses = v.uses; params = different ns }
+
 -- what can be seen in an item with these type parameters
 abbrev pub within : Visible → List Ident → Visible
-within v ps = record { text = v.text; implements = v.implements; uses = v.uses; params = different (map (λ p. p.name) ps) }
+within v ps = with_params v (map (λ p. p.name) ps)
 
 -- what can be seen in an interface, outside its items
 abbrev pub visible : InterfaceSyn → Visible

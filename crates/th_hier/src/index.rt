@@ -2,7 +2,7 @@
 ghost use Rattle.std.specs.Prelude.{◌≡◌, [], map, IfOk, OnOk};
 ghost use Rattle.th_hier.specs.Numbering.{full_numbers, with_item};
 ghost use Rattle.th_tree.specs.DeclView.{interface_of};
-ghost use Rattle.th_hier.specs.Texts.{visible, within};
+ghost use Rattle.th_hier.specs.Texts.{visible, with_params, within};
 ghost use Rattle.indexmap.specs.IndexMap.{insert_entry};
 ghost use Rattle.th_hier.specs.Naming.{is_number, same_item, item_at, item_in, own_or, bare_meaning, full_meaning, meaning};
 
@@ -82,15 +82,22 @@ impl Home {
 }
 
 impl<'a> Sight<'a> {
+    /// What can be seen in an item with type parameters of these names.
+    pub fn in_home(alloc: Global, home: &'a Home, params: &[u32]) -> Result<Self, AllocError>
+        ensures { IfOk result (λ s. s ≡ with_params home.now params.now) }
+    {
+        Ok(Sight {
+            home,
+            params: Numbers::of(alloc, params)?,
+        })
+    }
+
     /// What can be seen in an item with these type parameters.
     pub fn of(alloc: Global, home: &'a Home, params: &[Ident]) -> Result<Self, AllocError>
         ensures { IfOk result (λ s. s ≡ within home.now params.now) }
     {
         let params = names_of(alloc, params)?;
-        Ok(Sight {
-            home,
-            params: Numbers::of(alloc, &params)?,
-        })
+        Sight::in_home(alloc, home, &params)
     }
 }
 
