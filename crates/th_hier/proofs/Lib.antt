@@ -9,3 +9,4 @@ pub mod Keeping
 pub mod Founded
 pub mod Fitting
 pub mod Exact
+pub mod FullNames

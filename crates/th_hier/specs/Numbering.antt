@@ -1,5 +1,5 @@
 -- The numbers of the full names of the items of interfaces.
-use Rattle.std.specs.Prelude.{◌≡◌, ℕ, ◌+◌, Bool, true, false, ◌||◌, List, [], ◌∷◌, ◌++◌, map, length, slice_get, unwrap_or, is_some, if◌then◌else◌}
+use Rattle.std.specs.Prelude.{◌≡◌, ℕ, ◌+◌, ◌<◌, Some, Bool, true, false, ◌||◌, List, [], ◌∷◌, ◌++◌, map, length, slice_get, unwrap_or, is_some, if◌then◌else◌}
 use Rattle.th_tree.specs.Names.{place_of, with_name}
 use Rattle.th_tree.specs.Trees.{InterfaceItemSyn, exception_item, type_item, class_item, routine_item, InterfaceSyn}
 use Rattle.th_hier.specs.declared.item.Sort.{Sort}
@@ -7,6 +7,7 @@ use Rattle.th_hier.specs.declared.item.Sort.TheVariants.{Exception, Declared, Cl
 use Rattle.th_hier.specs.declared.item.ItemName.{ItemName}
 use Rattle.th_hier.specs.declared.item.Entry.{Entry}
 use Rattle.th_hier.specs.Naming.{Items, has, with_number, item_at}
+use Rattle.th_type.specs.Lists.{IsIn}
 use Rattle.th_hier.specs.Spots.{item_name}
 
 -- the name with the number, which is empty where the table has no such number
@@ -77,3 +78,8 @@ numbered_items table fs = add_interfaces [] (numbering table []) fs
 abbrev pub item_count : List InterfaceSyn → ℕ
 item_count [] = 0
 item_count (f ∷ fs) = length f.items + item_count fs
+
+-- Each item that is named by names of the old table has the number that its full name has in the new table.
+abbrev pub AllNamed : List (List ℕ) → List (List ℕ) → Items → Type 0
+AllNamed old new items =
+    (x : ItemName × Entry) → IsIn x items → x.0.interface < length old → x.0.name < length old → slice_get new x.1.full ≡ Some (full_name old x.0.interface x.0.name)
