@@ -105,7 +105,7 @@ mutual
   type_failure items v text (array_type at t) f m = type_failure items v text t f m
   type_failure items v text (named_type r ts) f m =
       elim (from_append f (type_name_fails (meaning items v r) (count ts) (place text r.first.at)) (types_fails items v text ts) m) [
-        inl a ↦ name_of text r.first.at (count ts) (meaning items v r) f a
+        | inl a ↦ name_of text r.first.at (count ts) (meaning items v r) f a
         | inr b ↦ types_failure items v text ts f b
       ]
 
@@ -113,7 +113,7 @@ mutual
   types_failure items v text no_type f m = absurd m
   types_failure items v text (more_types t ts) f m =
       elim (from_append f (type_fails items v text t) (types_fails items v text ts) m) [
-        inl a ↦ type_failure items v text t f a
+        | inl a ↦ type_failure items v text t f a
         | inr b ↦ types_failure items v text ts f b
       ]
 

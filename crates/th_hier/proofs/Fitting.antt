@@ -272,7 +272,7 @@ sigs_below : (items : Items) (v : Visible) (n : ℕ) (xs : List SigSyn) (w : Wri
 sigs_below items v n [] w le m = absurd m
 sigs_below items v n (x ∷ xs) w le m =
     elim (from_append w (written_at (signature_of items v x) x.name.at) (written_sigs items v xs) m) [
-      inl a ↦ written_below n x.name.at (signature_of items v x) w (λ s e. sig_below items v n x s le e) a
+      | inl a ↦ written_below n x.name.at (signature_of items v x) w (λ s e. sig_below items v n x s le e) a
       | inr b ↦ sigs_below items v n xs w le b
     ]
 

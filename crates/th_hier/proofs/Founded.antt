@@ -43,7 +43,7 @@ push_differ [] x d h = (λ y m e. m, tt)
 push_differ (z ∷ items) x d h =
     let p = free_head x.1.full z.1.full (has (full_numbers items) x.1.full) h in (
       λ y m (e : z.1.full ≡ y.1.full). elim (from_append y items (x ∷ []) m) [
-        inl a ↦ d.0 y a e
+        | inl a ↦ d.0 y a e
         | inr b ↦ elim b [ inl s ↦ p.0 (sym (e ∙ ap (λ (w : ItemName × Entry). w.1.full) s)) | inr n ↦ n ]
       ],
       push_differ items x d.1 p.1,

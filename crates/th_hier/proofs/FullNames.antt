@@ -59,9 +59,9 @@ push_named : (old new : List (List ℕ)) (items : Items) (x : ItemName × Entry)
     → AllNamed old new (if b then items else items ++ x ∷ [])
 push_named old new items x true a h = a
 push_named old new items x false a h = λ y m. elim (from_append y items (x ∷ []) m) [
-  inl p ↦ a y p
+  | inl p ↦ a y p
   | inr q ↦ elim q [
-    inl s ↦ subst (λ (z : ItemName × Entry). z.0.interface < length old → z.0.name < length old → slice_get new z.1.full ≡ Some (full_name old z.0.interface z.0.name)) (sym s) h
+    | inl s ↦ subst (λ (z : ItemName × Entry). z.0.interface < length old → z.0.name < length old → slice_get new z.1.full ≡ Some (full_name old z.0.interface z.0.name)) (sym s) h
     | inr n ↦ absurd n
   ]
 ]
@@ -75,8 +75,8 @@ item_named old s i x p =
     record {
       grown = grown_on old s.table (with_name s.table full) p.grown (with_grown s.table full);
       named = push_named old (with_name s.table full) s.items (key, e) (is_some (item_at s.items key) || has (full_numbers s.items) e.full)
-        (λ y m hi hn. kept_if s.table full y.1.full (full_name old y.0.interface y.0.name) (is_there s.table full) (p.named y m hi hn))
-        (λ hi hn. named_there s.table full ∙ ap (λ (f : List ℕ). Some f) (full_same old s.table i n p.grown hi hn));
+          (λ y m hi hn. kept_if s.table full y.1.full (full_name old y.0.interface y.0.name) (is_there s.table full) (p.named y m hi hn))
+          (λ hi hn. named_there s.table full ∙ ap (λ (f : List ℕ). Some f) (full_same old s.table i n p.grown hi hn));
     }
 
 items_named : (old : List (List ℕ)) (s : Numbering) (i : ℕ) (xs : List InterfaceItemSyn) → NamedSoFar old s → NamedSoFar old (add_items s i xs)

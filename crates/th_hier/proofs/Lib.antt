@@ -10,3 +10,4 @@ pub mod Founded
 pub mod Fitting
 pub mod Exact
 pub mod FullNames
+pub mod Refusing

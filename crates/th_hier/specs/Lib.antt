@@ -6,3 +6,5 @@ pub mod Views
 pub mod Texts
 pub mod Numbering
 pub mod Scopes
+pub mod Hierarchies
+pub mod Answers

@@ -10,7 +10,7 @@ ghost use Rattle.th_hier.specs.Views.{gives_opt, parts_opt, tys_opt};
 
 use crate::index::{Index, Sight};
 use crate::item::{Referent, Sort};
-use crate::resolve::{turned, with_type};
+use crate::named::{turned, with_type};
 use crate::spot::{Spot, judge_formals, judge_repeats};
 use crate::walk::{walk_type, walk_types};
 use std::alloc::{AllocError, Global};
@@ -138,7 +138,11 @@ fn walk_signals(
 }
 
 /// The parts, where all are there.
-fn joined(formals: Option<TyList>, gives: Option<Option<Ty>>, signals: Option<NumberList>) -> Option<Parts>
+fn joined(
+    formals: Option<TyList>,
+    gives: Option<Option<Ty>>,
+    signals: Option<NumberList>,
+) -> Option<Parts>
     ensures { parts_opt result ≡ parts (tys_opt formals) (gives_opt gives) signals }
 {
     let formals = formals?;

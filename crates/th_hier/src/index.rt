@@ -112,7 +112,12 @@ impl Index {
     }
 
     /// Adds an item, unless an item has its name or its number; `fulls` are the numbers of the items' full names.
-    pub fn add(&mut self, fulls: &mut Numbers, name: ItemName, entry: Entry) -> Result<(), AllocError>
+    pub fn add(
+        &mut self,
+        fulls: &mut Numbers,
+        name: ItemName,
+        entry: Entry,
+    ) -> Result<(), AllocError>
         requires { fulls.old ≡ full_numbers self.old }
         ensures items { OnOk result (self.new ≡ with_item self.old name entry) }
         ensures fulls { OnOk result (fulls.new ≡ full_numbers self.new) }

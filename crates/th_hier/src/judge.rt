@@ -14,7 +14,7 @@ use crate::index::{Home, Index, Sight};
 use crate::item::{Entry, Referent, Sort};
 use crate::members::{walk_sigs, walk_super, walk_supers};
 use crate::numbers::small;
-use crate::resolve::has_count;
+use crate::named::has_count;
 use crate::spot::{Spot, judge_item_names, judge_methods, judge_params, judge_repeats, spot_at};
 use crate::walk::walk_types;
 use std::alloc::{AllocError, Global};

@@ -7,15 +7,16 @@ mod index;
 mod item;
 mod judge;
 mod members;
+mod named;
 mod numbering;
 mod numbers;
-mod resolve;
 mod scope;
 mod spot;
 mod texts;
 mod walk;
 
 pub use heads::{Parts, exception_of};
+pub use hierarchy::{HierError, Hierarchy, resolve};
 pub use index::{Home, Index, Sight};
 pub use item::{Entry, ItemName, Referent, Sort};
 pub use members::{walk_sig, walk_sigs, walk_super, walk_supers};

@@ -13,7 +13,7 @@ ghost use Rattle.th_hier.specs.Views.{parts_opt, sig_opt, tys_opt};
 use crate::heads::{Parts, walk_head};
 use crate::index::{Index, Sight};
 use crate::item::{Entry, Referent, Sort};
-use crate::resolve::{has_count, judge_type_name};
+use crate::named::{has_count, judge_type_name};
 use crate::walk::walk_types;
 use std::alloc::{AllocError, Global};
 use th_tree::{NamedTree, SigTree, TypeList};

@@ -60,7 +60,9 @@ fn formal_spots(alloc: Global, text: u32, formals: &[Formal]) -> Result<Vec<Spot
 fn sig_spots(alloc: Global, text: u32, sigs: &[SigTree]) -> Result<Vec<Spot>, AllocError>
     ensures { IfOk result (λ r. r.items ≡ map (λ s. spot_at text s.name) sigs.now) }
 {
-    sigs.iter().map(|sig| spot_at(text, sig.name)).collect(alloc)
+    sigs.iter()
+        .map(|sig| spot_at(text, sig.name))
+        .collect(alloc)
 }
 
 /// The names of items where they stand in the text.

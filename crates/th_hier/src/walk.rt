@@ -7,7 +7,7 @@ ghost use Rattle.th_hier.specs.Resolve.{resolved_type, resolved_types, type_fail
 ghost use Rattle.th_hier.specs.Views.{ty_opt, tys_opt};
 
 use crate::index::{Index, Sight};
-use crate::resolve::{array_type, judge_type_name, referent_type, turned, with_type};
+use crate::named::{array_type, judge_type_name, referent_type, turned, with_type};
 use std::alloc::{AllocError, Global};
 use th_tree::{RefTree, TypeList, TypeTree};
 use th_type::{Failure, Place, Ty, TyList};

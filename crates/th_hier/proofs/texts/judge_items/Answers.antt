@@ -8,9 +8,9 @@ use Rattle.th_hier.proofs.texts.judge_items.Goals as goal
 pub loop-item-preserved : goal.loop-item-preserved
 loop-item-preserved c = (
   next_list (λ x. item_declared c.args.index.now c.args.home.now c.args.text (interface_item_of x)) (λ xs. items_declared c.args.index.now c.args.home.now c.args.text (map interface_item_of xs))
-  c.args.items.now c.loop-item.item-index c.item-item.result (decls_of c.loop-item.types.items) _ _
-  (λ y ys. refl) c.loop-item-test.true c.item-item.is c.in_ok-judge_item.ensures.types c.loop-item.invariant.0,
+      c.args.items.now c.loop-item.item-index c.item-item.result (decls_of c.loop-item.types.items) _ _
+      (λ y ys. refl) c.loop-item-test.true c.item-item.is c.in_ok-judge_item.ensures.types c.loop-item.invariant.0,
   next_fails (λ x. item_fails c.args.index.now c.args.home.now c.args.text (interface_item_of x)) (λ xs. items_fail c.args.index.now c.args.home.now c.args.text (map interface_item_of xs))
-  c.args.items.now c.loop-item.item-index c.item-item.result c.loop-item.least c.judge_item.new.least _
-  (λ y ys. refl) c.loop-item-test.true c.item-item.is c.in_ok-judge_item.ensures.least c.loop-item.invariant.1,
+      c.args.items.now c.loop-item.item-index c.item-item.result c.loop-item.least c.judge_item.new.least _
+      (λ y ys. refl) c.loop-item-test.true c.item-item.is c.in_ok-judge_item.ensures.least c.loop-item.invariant.1,
 )

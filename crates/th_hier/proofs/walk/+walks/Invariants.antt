@@ -15,5 +15,5 @@ decreases-walk_types l = goal.size-walk_types l
 abbrev pub invariant-walk_types-loop-rest : goal.invariant-walk_types-loop-rest
 invariant-walk_types-loop-rest l =
     (means_along l.index l.sight (types_of l.rest) (tys_opt l.done) ≡ means_along l.index l.sight (types_of l.fn.types) (Some no_ty))
-  × (least_along l.index l.sight l.text (types_of l.rest) l.least ≡ least_along l.index l.sight l.text (types_of l.fn.types) l.fn.least)
-  × (size-TypeList l.rest ≤ size-TypeList l.fn.types)
+    × (least_along l.index l.sight l.text (types_of l.rest) l.least ≡ least_along l.index l.sight l.text (types_of l.fn.types) l.fn.least)
+    × (size-TypeList l.rest ≤ size-TypeList l.fn.types)

@@ -96,7 +96,11 @@ pub fn array_type(alloc: Global, of: Option<Ty>) -> Result<Option<Ty>, AllocErro
 }
 
 /// The types so far, the last first, with a further one, where all are there.
-pub fn with_type(alloc: Global, done: Option<TyList>, ty: Option<Ty>) -> Result<Option<TyList>, AllocError>
+pub fn with_type(
+    alloc: Global,
+    done: Option<TyList>,
+    ty: Option<Ty>,
+) -> Result<Option<TyList>, AllocError>
     ensures { IfOk result (λ r. tys_opt r ≡ before_types (ty_opt ty) (tys_opt done)) }
 {
     let Some(done) = done else {
@@ -105,10 +109,7 @@ pub fn with_type(alloc: Global, done: Option<TyList>, ty: Option<Ty>) -> Result<
     let Some(ty) = ty else {
         return Ok(None);
     };
-    Ok(Some(TyList::MoreTy(
-        Box::new(alloc, ty)?,
-        Box::new(alloc, done)?,
-    )))
+    Ok(Some(TyList::MoreTy(Box::new(alloc, ty)?, Box::new(alloc, done)?)))
 }
 
 /// The types the other way round, where there are some.
