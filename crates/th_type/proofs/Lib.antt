@@ -11,3 +11,5 @@ pub mod Taken
 pub mod Climbing
 pub mod Noting
 pub mod Judging
+pub mod Ascent
+pub mod MethodLists

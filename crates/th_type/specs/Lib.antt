@@ -11,3 +11,4 @@ pub mod Closure
 pub mod Tables
 pub mod Cycles
 pub mod Judged
+pub mod MethodTables

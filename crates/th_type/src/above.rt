@@ -1,11 +1,11 @@
 //! The supertypes that a declared type reaches.
 ghost use Rattle.std.specs.Prelude.{◌≡◌, ◌∷◌, ◌++◌, [], length, slice_get, map, option_map, IfOk, None, Some, ◌<◌, nat_eq, option_copied};
 ghost use Rattle.std.specs.Map.{lookup};
-ghost use Rattle.th_type.specs.Types.{named_ty, tys_of};
-ghost use Rattle.th_type.specs.Tables.{above_of};
+ghost use Rattle.th_type.specs.Types.{named_ty, ty_of, tys_of};
+ghost use Rattle.th_type.specs.Tables.{above_of, up_of, is_reached, table_subtype};
 ghost use Rattle.th_type.specs.Closure.{find_head};
 
-use crate::ty::TyList;
+use crate::ty::{Args, Ty, TyList};
 use indexmap::IndexMap;
 use std::alloc::{AllocError, Global};
 
@@ -96,6 +96,29 @@ impl Ancestors {
         match self.map.insert(name, above) {
             Ok(_) => Ok(()),
             Err(_) => Err(AllocError),
+        }
+    }
+
+    /// Whether the first type is a subtype of the second, by the table.
+    pub(crate) fn is_subtype(&self, a: &Ty, b: &Ty) -> bool
+        ensures { result ≡ table_subtype (up_of self.now.map.entries) (ty_of a.now) (ty_of b.now) }
+    {
+        a.is_same(b) || self.is_above(a, b)
+    }
+
+    /// Whether the first type is a declared type that reaches the second.
+    fn is_above(&self, a: &Ty, b: &Ty) -> bool
+        ensures { result ≡ is_reached (up_of self.now.map.entries) (ty_of a.now) (ty_of b.now) }
+    {
+        let (Ty::Named(name, args), Ty::Named(other, others)) = (a, b) else {
+            return false;
+        };
+        match self.find(*name) {
+            Some(above) => match above.find(*other) {
+                Some(list) => list.is_with(Args::List(args), others),
+                None => false,
+            },
+            None => false,
         }
     }
 }

@@ -7,6 +7,8 @@ mod climb;
 mod cycles;
 mod defs;
 mod judge;
+mod lists;
+mod methods;
 mod place;
 mod sig;
 mod ty;
@@ -14,6 +16,7 @@ mod typedef;
 
 
 pub use place::{Failure, Place, What, demand};
-pub use sig::{Clause, NumberList, Prim, Sig, Supply};
+pub use lists::NumberList;
+pub use sig::{Clause, Prim, Sig, Supply};
 pub use ty::{Ty, TyList, substitute, substitute_list};
 pub use typedef::{Meaning, Supertype, TypeDef, Written};
