@@ -100,7 +100,7 @@ pub look_in : {A : Type 0} (n : ℕ) (es : List (ℕ × A)) → lookup (nat_eq n
 look_in n [] h i = i
 look_in n (e ∷ es) h i = look_if n e es (nat_eq n e.0) refl (look_in n es) h i
 
-absent_supers : (n : ℕ) (ds : List Declaration) → (IsIn n (map (λ d. d.name) ds) → ⊥) → supers_of (declared_types ds) n ≡ []
+pub absent_supers : (n : ℕ) (ds : List Declaration) → (IsIn n (map (λ d. d.name) ds) → ⊥) → supers_of (declared_types ds) n ≡ []
 absent_supers n ds h = supers_resolved n ds ∙ ap (λ o. resolved (members_in o)) (by (find_decl ds n) refl) where
   by : (o : Option Declaration) → find_decl ds n ≡ o → find_decl ds n ≡ None
   by None e = e

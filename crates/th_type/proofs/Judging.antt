@@ -156,12 +156,12 @@ tangled_from : (ds : List Declaration) (d : Declaration) (b : Bool) (g : Failure
 tangled_from ds d true g m t e = absurd (m t)
 tangled_from ds d false g m t e = inl e
 
-look_push : (k n : ℕ) (a x : Above) (es : List (ℕ × Above)) → lookup (nat_eq k) (es ++ (n, a) ∷ []) ≡ Some x → (lookup (nat_eq k) es ≡ Some x) ⊎ ((k ≡ n) × (x ≡ a))
-look_push k n a x [] h = by (nat_eq k n) refl h where
+pub look_push : {A : Type 0} (k n : ℕ) (a x : A) (es : List (ℕ × A)) → lookup (nat_eq k) (es ++ (n, a) ∷ []) ≡ Some x → (lookup (nat_eq k) es ≡ Some x) ⊎ ((k ≡ n) × (x ≡ a))
+look_push {A} k n a x [] h = by (nat_eq k n) refl h where
   by : (b : Bool) → nat_eq k n ≡ b → cond b (Some a) None ≡ Some x → (lookup (nat_eq k) [] ≡ Some x) ⊎ ((k ≡ n) × (x ≡ a))
   by true e h = inr (grind (arith, nat_tests), cc)
   by false e h = cc
-look_push k n a x (e ∷ es) h = by (nat_eq k e.0) (look_push k n a x es) h where
+look_push {A} k n a x (e ∷ es) h = by (nat_eq k e.0) (look_push k n a x es) h where
   by : (b : Bool) → (lookup (nat_eq k) (es ++ (n, a) ∷ []) ≡ Some x → (lookup (nat_eq k) es ≡ Some x) ⊎ ((k ≡ n) × (x ≡ a))) → cond b (Some e.1) (lookup (nat_eq k) (es ++ (n, a) ∷ [])) ≡ Some x → (cond b (Some e.1) (lookup (nat_eq k) es) ≡ Some x) ⊎ ((k ≡ n) × (x ≡ a))
   by true r h = inl h
   by false r h = r h

@@ -13,3 +13,5 @@ pub mod Noting
 pub mod Judging
 pub mod Ascent
 pub mod MethodLists
+pub mod Ranks
+pub mod Filling

@@ -131,7 +131,7 @@ well_formed_fits ds w = record {
       let m = p.2 in
       subst (λ k. ParamsBelow k t) (sym (params_found ds n p.0 p.1)) (subst (λ t. ParamsBelow p.0.params t) (sym m.is) m.below)
 
-name_among : (n : ℕ) (ds : List Declaration) → IsIn n (map (λ d. d.name) (declared_types ds)) → (d : Declaration) × IsIn d ds × (d.name ≡ n)
+pub name_among : (n : ℕ) (ds : List Declaration) → IsIn n (map (λ d. d.name) (declared_types ds)) → (d : Declaration) × IsIn d ds × (d.name ≡ n)
 name_among n ds i =
     let p = from_map (λ d. d.name) n (declared_types ds) i in
     let q = from_map declared_type p.0 ds p.1 in

@@ -1,5 +1,5 @@
 //! The supertypes that a declared type reaches.
-ghost use Rattle.std.specs.Prelude.{◌≡◌, ◌∷◌, ◌++◌, [], length, slice_get, map, option_map, IfOk, None, Some, ◌<◌, nat_eq, option_copied};
+ghost use Rattle.std.specs.Prelude.{◌≡◌, ◌∷◌, ◌++◌, [], length, slice_get, map, option_map, IfOk, None, Some, ◌<◌, nat_eq, option_copied, ℕ, ◌≤◌, ◌^◌};
 ghost use Rattle.std.specs.Map.{lookup};
 ghost use Rattle.th_type.specs.Types.{named_ty, ty_of, tys_of};
 ghost use Rattle.th_type.specs.Tables.{above_of, up_of, is_reached, table_subtype};
@@ -27,7 +27,8 @@ impl Above {
 
     /// How many types there are.
     pub(crate) fn len(&self) -> usize
-        ensures { result ≡ length (above_of self.now) }
+        ensures count { result ≡ length (above_of self.now) }
+        ensures small { result < 2 ^ 63 }
     {
         self.map.len()
     }
@@ -120,5 +121,30 @@ impl Ancestors {
             },
             None => false,
         }
+    }
+
+    /// How many supertypes the declared type with the number reaches.
+    pub(crate) fn rank(&self, name: u32) -> usize
+        ensures { result ≡ length (up_of self.now.map.entries name) }
+    {
+        match self.find(name) {
+            Some(above) => above.len(),
+            None => 0,
+        }
+    }
+
+    /// How many supertypes a declared type reaches at most.
+    pub(crate) fn highest(&self) -> usize
+        ensures bound { (n : ℕ) → length (up_of self.now.map.entries n) ≤ result }
+        ensures small { result < 2 ^ 63 }
+    {
+        let mut highest: usize = 0;
+        for k in 0..self.map.len() {
+            match self.map.get_index(k) {
+                Some((_, above)) => highest = highest.max(above.len()),
+                None => unreachable!(),
+            }
+        }
+        highest
     }
 }

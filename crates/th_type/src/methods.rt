@@ -1,13 +1,19 @@
 //! The methods of declared types. docs/LANGUAGE.md, "Methods of a type", states them.
-ghost use Rattle.std.specs.Prelude.{◌≡◌, ◌∷◌, ◌++◌, ◌+◌, ◌<◌, [], length, map, nat_eq, option_copied, IfOk, MatchResult, None};
+ghost use Rattle.std.specs.Prelude.{◌≡◌, ◌∷◌, ◌++◌, ◌+◌, ◌<◌, [], length, map, nat_eq, option_copied, IfOk, MatchResult, None, is_some};
 ghost use Rattle.std.specs.Map.{lookup};
 ghost use Rattle.th_type.specs.Types.{list_of, tys_of};
 ghost use Rattle.th_type.specs.Signatures.{sig_of, subst_sig};
-ghost use Rattle.th_type.specs.MethodTables.{Rising, FoundAt, GoesAt, Merged, written_sigs};
+ghost use Rattle.th_type.specs.Declarations.{declared_types, super_of, meant_of, types_meant, resolved, named_decl};
+ghost use Rattle.th_type.specs.Rules.{WellFormed};
+ghost use Rattle.th_type.specs.Judged.{Ascended};
+ghost use Rattle.th_type.specs.Tables.{defs_of, up_of};
+ghost use Rattle.th_type.specs.MethodTables.{Rising, FoundAt, GoesAt, Merged, Joined, Put, Filling, MethodsRight, written_sigs};
 
+use crate::above::Ancestors;
+use crate::defs::Defs;
 use crate::sig::Sig;
 use crate::ty::{Args, TyList};
-use crate::typedef::Written;
+use crate::typedef::{Meaning, TypeDef, Written};
 use indexmap::IndexMap;
 use std::alloc::{AllocError, Global};
 
@@ -74,6 +80,97 @@ fn add_inherited(
     Ok(())
 }
 
+/// Adds the methods of a member of a list of supertypes.
+fn add_member(
+    alloc: Global,
+    sigs: &mut Vec<Sig>,
+    table: &Methods,
+    meaning: &Meaning,
+) -> Result<(), AllocError>
+    requires { Rising (map sig_of sigs.old.items) }
+    ensures { IfOk result (λ _. Joined table.now.map.entries (map sig_of sigs.old.items) (types_meant (meant_of meaning.now)) (map sig_of sigs.new.items)) }
+{
+    let Meaning::Whole(name, args) = meaning else {
+        return Ok(());
+    };
+    match table.find(*name) {
+        Some(inherited) => {
+            add_inherited(alloc, sigs, inherited, args)?;
+            Ok(())
+        }
+        None => Ok(()),
+    }
+}
+
+/// The methods of a declared type: those written in it, and those of its supertypes by the table.
+fn build(alloc: Global, table: &Methods, def: &TypeDef) -> Result<Vec<Sig>, AllocError>
+    ensures { IfOk result (λ sigs. Joined table.now.map.entries (written_sigs def.now.methods.items) (resolved (map super_of def.now.supertypes.items)) (map sig_of sigs.items)) }
+{
+    let mut sigs = Vec::new(alloc);
+    add_written(alloc, &mut sigs, &def.methods)?;
+    for member in &def.supertypes {
+        add_member(alloc, &mut sigs, table, &member.meaning)?;
+    }
+    Ok(sigs)
+}
+
+/// Puts a declared type into the table, all of whose supertypes are there.
+fn fill_one(
+    alloc: Global,
+    table: &mut Methods,
+    name: u32,
+    def: &TypeDef,
+) -> Result<(), AllocError>
+    ensures { IfOk result (λ _. Put table.old.map.entries table.new.map.entries (named_decl name def.now)) }
+{
+    if table.has(name) {
+        return Ok(());
+    }
+    let sigs = build(alloc, table, def)?;
+    table.put(name, sigs)?;
+    Ok(())
+}
+
+/// Puts the declared types into the table that reach so many supertypes.
+fn fill(
+    alloc: Global,
+    defs: &Defs,
+    ancestors: &Ancestors,
+    table: &mut Methods,
+    rank: usize,
+) -> Result<(), AllocError>
+    requires formed { WellFormed (defs_of defs.now) }
+    requires ascended { Ascended (defs_of defs.now) (up_of ancestors.now.map.entries) }
+    requires filled { Filling (declared_types (defs_of defs.now)) (up_of ancestors.now.map.entries) table.old.map.entries rank [] }
+    ensures { IfOk result (λ _. Filling (declared_types (defs_of defs.now)) (up_of ancestors.now.map.entries) table.new.map.entries rank (defs_of defs.now)) }
+{
+    for k in 0..defs.len() {
+        let (name, def) = defs.at(k);
+        if ancestors.rank(name) == rank {
+            fill_one(alloc, table, name, def)?;
+        }
+    }
+    Ok(())
+}
+
+/// The methods of all declared types.
+pub(crate) fn tabulate(
+    alloc: Global,
+    defs: &Defs,
+    ancestors: &Ancestors,
+) -> Result<Methods, AllocError>
+    requires formed { WellFormed (defs_of defs.now) }
+    requires ascended { Ascended (defs_of defs.now) (up_of ancestors.now.map.entries) }
+    ensures { IfOk result (λ table. MethodsRight (declared_types (defs_of defs.now)) table.map.entries) }
+{
+    let mut table = Methods::new(alloc);
+    let ranks = ancestors.highest() + 1;
+    for rank in 0..ranks {
+        fill(alloc, defs, ancestors, &mut table, rank)?;
+    }
+    Ok(table)
+}
+
 /// For each declared type its methods, ascending by their numbers.
 #[derive(Drop)]
 pub(crate) struct Methods {
@@ -95,6 +192,16 @@ impl Methods {
         ensures { option_copied result ≡ lookup (nat_eq name) self.now.map.entries }
     {
         self.map.get(&name)
+    }
+
+    /// Whether the declared type with the number is there.
+    fn has(&self, name: u32) -> bool
+        ensures { result ≡ is_some (lookup (nat_eq name) self.now.map.entries) }
+    {
+        match self.map.get(&name) {
+            Some(_) => true,
+            None => false,
+        }
     }
 
     /// Puts a declared type that is not there last.
