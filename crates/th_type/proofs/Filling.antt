@@ -84,17 +84,17 @@ joined_more es ms i d xs ys zs h e a b =
         ∙ ap (λ (s : Supertype). resolved (map super_of (take i ms)) ++ types_meant (meant_of s.meaning)) (sym e) in
     subst (λ ts. Joined es xs ts zs) (sym g) (joined_then es xs ys zs (resolved (map super_of (take i ms))) (types_meant (meant_of d.meaning)) a b)
 
-first_same : {A B : Type 0} (f g : A → Option B) (xs : List A) → ((x : A) → IsIn x xs → f x ≡ g x) → first_some f xs ≡ first_some g xs
+pub first_same : {A B : Type 0} (f g : A → Option B) (xs : List A) → ((x : A) → IsIn x xs → f x ≡ g x) → first_some f xs ≡ first_some g xs
 first_same f g [] h = refl
 first_same f g (x ∷ xs) h = rw (h x (inl refl), first_same f g xs (λ y i. h y (inr i))) refl
 
-find_written : (n : ℕ) (d : Declaration) (ds : List Declaration) → find_decl ds n ≡ Some d → sigs_of (declared_types ds) n ≡ map (λ w. w.sig) d.methods
+pub find_written : (n : ℕ) (d : Declaration) (ds : List Declaration) → find_decl ds n ≡ Some d → sigs_of (declared_types ds) n ≡ map (λ w. w.sig) d.methods
 find_written n d ds e = ap written_in (type_found n ds ∙ ap (option_map declared_type) e)
 
-find_supers : (n : ℕ) (d : Declaration) (ds : List Declaration) → find_decl ds n ≡ Some d → supers_of (declared_types ds) n ≡ resolved d.supertypes
+pub find_supers : (n : ℕ) (d : Declaration) (ds : List Declaration) → find_decl ds n ≡ Some d → supers_of (declared_types ds) n ≡ resolved d.supertypes
 find_supers n d ds e = supers_resolved n ds ∙ ap (λ o. resolved (members_in o)) e
 
-names_to : (ds : List Declaration) (s : ℕ) → IsIn s (map (λ d. d.name) (declared_types ds)) → IsIn s (map (λ d. d.name) ds)
+pub names_to : (ds : List Declaration) (s : ℕ) → IsIn s (map (λ d. d.name) (declared_types ds)) → IsIn s (map (λ d. d.name) ds)
 names_to ds s i = let p = name_among s ds i in subst (λ s. IsIn s (map (λ d. d.name) ds)) p.2 (in_map (λ d. d.name) p.0 ds p.1)
 
 pub names_from : (ds : List Declaration) (s : ℕ) → IsIn s (map (λ d. d.name) ds) → IsIn s (map (λ d. d.name) (declared_types ds))
@@ -208,14 +208,18 @@ module _ (ds : List Declaration) (w : WellFormed ds) (up : ℕ → List TypeExpr
       by (Some d) e = let p = decl_is n d ds e in absurd (g (subst (λ k. IsIn k (map (λ d. d.name) ds)) p.1 (in_map (λ d. d.name) d ds p.0)))
 
   -- at the end the table is right
-  pub filling_done : (es : List (ℕ × Vec Sig)) (r : ℕ) → ((n : ℕ) → length (up n) < r) → Filling (declared_types ds) up es r [] → MethodsRight (declared_types ds) es
+  pub filling_done : (es : List (ℕ × Vec Sig)) (r : ℕ) → ((n : ℕ) → length (up n) < r) → Filling (declared_types ds) up es r [] → MethodsRight (declared_types ds) up es
   filling_done es r h f = record {
     rising = λ n. rising_at n (lookup (nat_eq n) es) refl;
+    stable = λ n m k l. stable_at n m k l (lookup (nat_eq n) es) refl;
     finds = λ n m. finds_at n m (lookup (nat_eq n) es) refl;
   } where
     rising_at : (n : ℕ) (o : Option (Vec Sig)) → lookup (nat_eq n) es ≡ o → Rising (sigs_in o)
     rising_at n None e = tt
     rising_at n (Some v) e = (f.settled n v e).rising
+    stable_at : (n m k : ℕ) → length (up n) < k → (o : Option (Vec Sig)) → lookup (nat_eq n) es ≡ o → find_sig (sigs_in o) m ≡ method_up k (declared_types ds) n m
+    stable_at n m k l None e = sym (no_method k n m (λ i. f.lower n i (h n) e))
+    stable_at n m k l (Some v) e = (f.settled n v e).finds k m l
     finds_at : (n m : ℕ) (o : Option (Vec Sig)) → lookup (nat_eq n) es ≡ o → find_sig (sigs_in o) m ≡ method_of (declared_types ds) n m
     finds_at n m None e = sym (no_method (length (declared_types ds)) n m (λ i. f.lower n i (h n) e))
     finds_at n m (Some v) e = let i = (f.settled n v e).named in (f.settled n v e).finds (length (declared_types ds)) m (rank_bound ds w up a n (names_to ds n i) i)

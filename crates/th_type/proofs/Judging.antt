@@ -26,7 +26,7 @@ use Rattle.th_type.proofs.Least.{least_alike, least_lowest, lowest_append, up_to
 use Rattle.th_type.proofs.Noting.{any_in}
 use Rattle.th_type.proofs.Closure.{climbed_none}
 
-is_in_push : (k n : ℕ) (ks : List ℕ) → is_in k (ks ++ n ∷ []) ≡ (nat_eq k n || is_in k ks)
+pub is_in_push : (k n : ℕ) (ks : List ℕ) → is_in k (ks ++ n ∷ []) ≡ (nat_eq k n || is_in k ks)
 is_in_push k n [] = refl
 is_in_push k n (m ∷ ms) = ap (λ b. nat_eq k m || b) (is_in_push k n ms) ∙ swap (nat_eq k m) (nat_eq k n) (is_in k ms) where
   swap : (a b c : Bool) → (a || (b || c)) ≡ (b || (a || c))
@@ -41,6 +41,9 @@ insert_same n ks true e k = by (nat_eq k n) refl where
   by true h = let s : k ≡ n = grind (arith, nat_tests) in let i : is_in k ks ≡ true = subst (λ k. is_in k ks ≡ true) (sym s) e in rw (h, i) refl
   by false h = rw h refl
 insert_same n ks false e k = is_in_push k n ks
+
+pub insert_numbers : (n : ℕ) (ks ls : List ℕ) → ls ≡ insert_key nat_eq ks n → SameNumbers ls (n ∷ ks)
+insert_numbers n ks ls e k = ap (is_in k) (e ∙ ap (λ b. if b then ks else ks ++ n ∷ []) (any_in n ks)) ∙ insert_same n ks (is_in n ks) refl k
 
 listed_by : (m : Meant) (n : ℕ) (text at : ℕ) (seen : List ℕ) → (m ≡ by_head n) ⊎ ((x : _) × (m ≡ whole n x)) → (member_failures text seen at m ≡ unless (not (is_in n seen)) 6 (place text at)) × (names_meant m ≡ n ∷ [])
 listed_by m n text at seen (inl e) = (rw e refl, rw e refl)

@@ -5,7 +5,7 @@ pub mod Substitution
 pub mod Members
 pub mod Subtyping
 pub mod Closure
-pub mod Tables
+pub mod Lookups
 pub mod Resolved
 pub mod Taken
 pub mod Climbing
@@ -15,3 +15,6 @@ pub mod Ascent
 pub mod MethodLists
 pub mod Ranks
 pub mod Filling
+pub mod Exact
+pub mod Testing
+pub mod Inherit

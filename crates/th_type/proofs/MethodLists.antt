@@ -1,7 +1,7 @@
 -- Ascending lists of signatures.
 use Rattle.std.proofs.Common.{◌≡◌, ◌∙◌, ℕ, zero, suc, ◌+◌, ◌<◌, ◌≤◌, Bool, true, false, nat_eq, List, [], ◌∷◌, ◌++◌, length, map, take, drop, get_or, slice_get, Option, Some, None, option_map, refl, ap, sym, subst, ◌⊎◌, inl, inr, arith, if◌then◌else◌, take-append-drop}
 use Rattle.std.proofs.lemmas.Bool.Decides.{nat_tests}
-use Rattle.std.proofs.lemmas.List.{map-append, take_more}
+use Rattle.std.proofs.lemmas.List.{map-append, take_more, length-map}
 use Rattle.std.specs.List.{insert}
 use Rattle.th_type.specs.declared.sig.Sig.{Sig}
 use Rattle.th_type.specs.Lists.{IsIn, or_else, first_some}
@@ -190,3 +190,12 @@ inherited_more args ss i d s xs ys zs h e f a b =
     let g : inherited args (take (i + 1) ss) ≡ inherited args (take i ss) ++ s ∷ [] =
           ap (inherited args) (take_more ss i d h) ∙ ap (map (subst_sig args)) (map-append sig_of (take i ss) (get_or ss i d ∷ [])) ∙ map-append (subst_sig args) (map sig_of (take i ss)) (sig_of (get_or ss i d) ∷ []) ∙ ap (λ (w : Sig). inherited args (take i ss) ++ subst_sig args (sig_of w) ∷ []) (sym e) ∙ ap (λ t. inherited args (take i ss) ++ t ∷ []) (sym f) in
     subst (λ us. Merged xs us zs) (sym g) (merged_then xs (inherited args (take i ss)) ys (s ∷ []) zs a b)
+
+-- what stands at the found place is the method's signature
+pub found_at_is : (xs : List Sig) (m k : ℕ) (d : Sig) → Rising (map sig_of xs) → FoundAt (map sig_of xs) m k → d ≡ get_or xs k d → Some (sig_of d) ≡ find_sig (map sig_of xs) m
+found_at_is xs m k d r f e =
+    let p = found_is (map sig_of xs) m k r f in
+    let w = in_within p.0 (map sig_of xs) k p.1 in
+    let l : length (map sig_of xs) ≡ length xs = length-map xs sig_of in
+    let g = get_at sig_of xs k d (omega (arith, w, l)) e in
+    sym g ∙ p.1 ∙ sym p.2

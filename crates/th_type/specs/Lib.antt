@@ -12,3 +12,5 @@ pub mod Tables
 pub mod Cycles
 pub mod Judged
 pub mod MethodTables
+pub mod Conforming
+pub mod Tests

@@ -66,7 +66,8 @@ pub record Filling (D : List DeclaredType) (up : ℕ → List TypeExpr) (es : Li
   pub lower : (n : ℕ) → IsIn n (map (λ d. d.name) D) → length (up n) < r → lookup (nat_eq n) es ≡ None → ⊥
   pub equal : (n : ℕ) → IsIn n (map (λ d. d.name) ps) → length (up n) ≡ r → lookup (nat_eq n) es ≡ None → ⊥
 
--- the table has the methods of each declared type, ascending
-pub record MethodsRight (D : List DeclaredType) (es : List (ℕ × Vec Sig)) : Type 0 where
+-- the table has the methods of each declared type, ascending, looked for through as many types as it takes
+pub record MethodsRight (D : List DeclaredType) (up : ℕ → List TypeExpr) (es : List (ℕ × Vec Sig)) : Type 0 where
   pub rising : (n : ℕ) → Rising (methods_in es n)
+  pub stable : (n m k : ℕ) → length (up n) < k → method_in es n m ≡ method_up k D n m
   pub finds : (n m : ℕ) → method_in es n m ≡ method_of D n m

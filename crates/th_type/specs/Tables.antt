@@ -4,6 +4,9 @@ use Rattle.th_type.specs.declared.ty.TyList.{TyList}
 use Rattle.th_type.specs.declared.typedef.TypeDef.{TypeDef}
 use Rattle.th_type.specs.declared.defs.Defs.{Defs}
 use Rattle.th_type.specs.declared.above.Above.{Above}
+use Rattle.th_type.specs.declared.sig.Sig.{Sig}
+use Rattle.th_type.specs.declared.known.Tables.{Tables}
+use Rattle.std.specs.Global.{Vec}
 use Rattle.th_type.specs.Types.{TypeExpr, TypeExprs, named_ty, tys_of, list_of, subst_ty, same_ty}
 use Rattle.std.specs.Map.{lookup}
 use Rattle.th_type.specs.Closure.{find_head}
@@ -46,3 +49,11 @@ is_reached up _ _ = false
 -- whether the first type is a subtype of the second, by a table of supertypes
 abbrev pub table_subtype : (ℕ → List TypeExpr) → TypeExpr → TypeExpr → Bool
 table_subtype up a b = same_ty a b || is_reached up a b
+
+-- the supertypes that the tables have for the declared type n
+abbrev pub tables_up : Tables → ℕ → List TypeExpr
+tables_up t = up_of t.ancestors.map.entries
+
+-- the methods that the tables have for declared types
+abbrev pub tables_methods : Tables → List (ℕ × Vec Sig)
+tables_methods t = t.methods.map.entries

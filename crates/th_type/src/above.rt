@@ -1,7 +1,7 @@
 //! The supertypes that a declared type reaches.
 ghost use Rattle.std.specs.Prelude.{◌≡◌, ◌∷◌, ◌++◌, [], length, slice_get, map, option_map, IfOk, None, Some, ◌<◌, nat_eq, option_copied, ℕ, ◌≤◌, ◌^◌};
 ghost use Rattle.std.specs.Map.{lookup};
-ghost use Rattle.th_type.specs.Types.{named_ty, ty_of, tys_of};
+ghost use Rattle.th_type.specs.Types.{TypeExprs, named_ty, ty_of, tys_of};
 ghost use Rattle.th_type.specs.Tables.{above_of, up_of, is_reached, table_subtype};
 ghost use Rattle.th_type.specs.Closure.{find_head};
 
@@ -50,6 +50,17 @@ impl Above {
                 let args = args.try_clone(alloc)?;
                 Ok((*name, args))
             }
+            None => unreachable!(),
+        }
+    }
+
+    /// The number of the declared type at place `k`.
+    pub(crate) fn name_at(&self, k: usize) -> u32
+        requires { k < length (above_of self.now) }
+        ensures { (args : TypeExprs) × (slice_get (above_of self.now) k ≡ Some (named_ty result args)) }
+    {
+        match self.map.get_index(k) {
+            Some((name, _)) => *name,
             None => unreachable!(),
         }
     }

@@ -4,6 +4,7 @@
 
 mod above;
 mod climb;
+mod conform;
 mod cycles;
 mod defs;
 mod judge;
@@ -11,6 +12,7 @@ mod lists;
 mod methods;
 mod place;
 mod sig;
+mod known;
 mod ty;
 mod typedef;
 

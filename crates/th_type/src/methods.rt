@@ -161,7 +161,7 @@ pub(crate) fn tabulate(
 ) -> Result<Methods, AllocError>
     requires formed { WellFormed (defs_of defs.now) }
     requires ascended { Ascended (defs_of defs.now) (up_of ancestors.now.map.entries) }
-    ensures { IfOk result (λ table. MethodsRight (declared_types (defs_of defs.now)) table.map.entries) }
+    ensures { IfOk result (λ table. MethodsRight (declared_types (defs_of defs.now)) (up_of ancestors.now.map.entries) table.map.entries) }
 {
     let mut table = Methods::new(alloc);
     let ranks = ancestors.highest() + 1;
@@ -188,7 +188,7 @@ impl Methods {
     }
 
     /// The methods of the declared type with the number; None where it is not there.
-    fn find(&self, name: u32) -> Option<&Vec<Sig>>
+    pub(crate) fn find(&self, name: u32) -> Option<&Vec<Sig>>
         ensures { option_copied result ≡ lookup (nat_eq name) self.now.map.entries }
     {
         self.map.get(&name)

@@ -4,6 +4,7 @@
 //! that lists are walked and dropped by loops.
 ghost use Rattle.std.specs.Prelude.{◌≡◌, ◌-◌, ◌^◌, length, min, slice_get, map, option_map, IfOk, MatchOption, option_copied, IsTrue, ◌↔◌, ◌≤◌};
 ghost use Rattle.th_type.specs.Args.{args_items};
+ghost use Rattle.th_type.specs.Conforming.{is_param_ty};
 ghost use Rattle.th_type.specs.Types.{ty_of, tys_of, list_of, tys_onto, ty_height, tys_height, subst_ty, subst_tys, same_ty, same_tys, arg_at, param_ty, ParamsBelow, AllParamsBelow};
 
 use std::alloc::{AllocError, Global};
@@ -311,6 +312,16 @@ impl Ty {
                 Some(arg) => arg.is_same(other),
                 None => other.is_param(*place),
             },
+        }
+    }
+
+    /// Whether the type is a parameter.
+    pub(crate) fn is_any_param(&self) -> bool
+        ensures { result ≡ is_param_ty (ty_of self.now) }
+    {
+        match self {
+            Ty::Param(_) => true,
+            _ => false,
         }
     }
 
