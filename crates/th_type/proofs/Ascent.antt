@@ -15,7 +15,8 @@ use Rattle.th_type.specs.Judged.{Judging}
 use Rattle.th_type.specs.Tables.{above_of, up_in, up_of, is_found, is_reached, table_subtype}
 use Rattle.th_type.proofs.Members.{in_map, from_map}
 use Rattle.th_type.proofs.Same.{same_self, same_equal}
-use Rattle.th_type.proofs.Subtyping.{Fits, Saturated, subtype_to, subtype_from, subtype_self}
+use Rattle.th_type.specs.Fitting.{Fits, Saturated}
+use Rattle.th_type.proofs.Subtyping.{subtype_to, subtype_from, subtype_self}
 use Rattle.th_type.proofs.Closure.{head_found, head_none, left_none}
 use Rattle.th_type.proofs.Resolved.{supers_resolved, decl_is}
 

@@ -243,7 +243,7 @@ highest_more es k h d l g q b e i = elim (from_append e (take k es) (d ∷ []) (
     inl j ↦ (let p = b e j in grind (arith, p))
   | inr j ↦ elim j [ inl s ↦ (let p : length (above_of e.1) ≡ l = ap (λ (x : ℕ × Above). length (above_of x.1)) s ∙ sym q in grind (arith, p)) | inr z ↦ absurd z ] ]
 
-written_same : (ws : List Written) → written_sigs ws ≡ map (λ w. w.sig) (map written_of ws)
+pub written_same : (ws : List Written) → written_sigs ws ≡ map (λ w. w.sig) (map written_of ws)
 written_same [] = refl
 written_same (w ∷ ws) = ap (λ ss. sig_of w.sig ∷ ss) (written_same ws)
 

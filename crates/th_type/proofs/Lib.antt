@@ -18,3 +18,5 @@ pub mod Filling
 pub mod Exact
 pub mod Testing
 pub mod Inherit
+pub mod RowLists
+pub mod Judgement

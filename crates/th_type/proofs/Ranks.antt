@@ -9,7 +9,8 @@ use Rattle.th_type.specs.Rules.{names_meant, named, names_up, NameClimbs, Reache
 use Rattle.th_type.specs.Closure.{find_head, one_if_none, left, Climbed}
 use Rattle.th_type.specs.Judged.{Ascended}
 use Rattle.th_type.proofs.Members.{from_map, in_left, in_right, from_append}
-use Rattle.th_type.proofs.Subtyping.{Fits, subtype_to}
+use Rattle.th_type.specs.Fitting.{Fits}
+use Rattle.th_type.proofs.Subtyping.{subtype_to}
 use Rattle.th_type.proofs.Resolved.{supers_resolved, name_among, well_formed_fits, heads_among}
 use Rattle.th_type.proofs.Closure.{head_found, head_none}
 

@@ -9,7 +9,7 @@ use Rattle.th_type.specs.Subtypes.{parents}
 use Rattle.th_type.specs.Rules.{NamesDiffer, MemberFits, WellFormed}
 use Rattle.th_type.specs.Closure.{Distinct, HeadsAmong}
 use Rattle.th_type.proofs.Members.{in_map, from_map, from_append}
-use Rattle.th_type.proofs.Subtyping.{Fits, Saturated}
+use Rattle.th_type.specs.Fitting.{Fits, Saturated}
 
 type_if : (n : ℕ) (d : Declaration) (ds : List Declaration) (b : Bool) → find_type (declared_types ds) n ≡ option_map declared_type (find_decl ds n)
     → (if b then Some (declared_type d) else find_type (declared_types ds) n) ≡ option_map declared_type (if b then Some d else find_decl ds n)

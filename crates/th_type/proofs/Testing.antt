@@ -71,7 +71,7 @@ append_none : {A : Type 0} (xs : List A) → xs ++ [] ≡ xs
 append_none [] = refl
 append_none (x ∷ xs) = ap (λ ys. x ∷ ys) (append_none xs)
 
-resolved_more : (ms : List Supertype) (i : ℕ) (d : Supertype) → i < length ms → d ≡ get_or ms i d → resolved (map super_of (take (i + 1) ms)) ≡ resolved (map super_of (take i ms)) ++ types_meant (meant_of d.meaning)
+pub resolved_more : (ms : List Supertype) (i : ℕ) (d : Supertype) → i < length ms → d ≡ get_or ms i d → resolved (map super_of (take (i + 1) ms)) ≡ resolved (map super_of (take i ms)) ++ types_meant (meant_of d.meaning)
 resolved_more ms i d h e =
       ap (λ ts. resolved (map super_of ts)) (take_more ms i d h)
     ∙ ap resolved (map-append super_of (take i ms) (get_or ms i d ∷ []))

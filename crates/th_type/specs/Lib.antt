@@ -14,3 +14,8 @@ pub mod Judged
 pub mod MethodTables
 pub mod Conforming
 pub mod Tests
+pub mod Codes
+pub mod Rows
+pub mod Fitting
+pub mod LatticeRight
+pub mod Refusals

@@ -8,9 +8,11 @@ mod conform;
 mod cycles;
 mod defs;
 mod judge;
+mod lattice;
 mod lists;
 mod methods;
 mod place;
+mod rows;
 mod sig;
 mod known;
 mod ty;
@@ -18,6 +20,7 @@ mod typedef;
 
 
 pub use place::{Failure, Place, What, demand};
+pub use lattice::{Lattice, LatticeError};
 pub use lists::NumberList;
 pub use sig::{Clause, Prim, Sig, Supply};
 pub use ty::{Ty, TyList, substitute, substitute_list};
