@@ -198,7 +198,7 @@ names : List DeclaredType → List ℕ
 names D = map (λ d. d.name) D
 
 -- the list at the start
-left_none : (ns : List ℕ) → left ns [] ≡ length ns
+pub left_none : (ns : List ℕ) → left ns [] ≡ length ns
 left_none [] = refl
 left_none (n ∷ ns) = let h = left_none ns in omega (arith, h)
 

@@ -26,7 +26,7 @@ use Rattle.th_type.proofs.Least.{least_alike, least_lowest, lowest_append, up_to
 use Rattle.th_type.proofs.Noting.{any_in}
 use Rattle.th_type.proofs.Closure.{climbed_none}
 
-is_in_push : (k n : ℕ) (ks : List ℕ) → is_in k (ks ++ n ∷ []) ≡ (nat_eq k n || is_in k ks)
+pub is_in_push : (k n : ℕ) (ks : List ℕ) → is_in k (ks ++ n ∷ []) ≡ (nat_eq k n || is_in k ks)
 is_in_push k n [] = refl
 is_in_push k n (m ∷ ms) = ap (λ b. nat_eq k m || b) (is_in_push k n ms) ∙ swap (nat_eq k m) (nat_eq k n) (is_in k ms) where
   swap : (a b c : Bool) → (a || (b || c)) ≡ (b || (a || c))
@@ -41,6 +41,9 @@ insert_same n ks true e k = by (nat_eq k n) refl where
   by true h = let s : k ≡ n = grind (arith, nat_tests) in let i : is_in k ks ≡ true = subst (λ k. is_in k ks ≡ true) (sym s) e in rw (h, i) refl
   by false h = rw h refl
 insert_same n ks false e k = is_in_push k n ks
+
+pub insert_numbers : (n : ℕ) (ks ls : List ℕ) → ls ≡ insert_key nat_eq ks n → SameNumbers ls (n ∷ ks)
+insert_numbers n ks ls e k = ap (is_in k) (e ∙ ap (λ b. if b then ks else ks ++ n ∷ []) (any_in n ks)) ∙ insert_same n ks (is_in n ks) refl k
 
 listed_by : (m : Meant) (n : ℕ) (text at : ℕ) (seen : List ℕ) → (m ≡ by_head n) ⊎ ((x : _) × (m ≡ whole n x)) → (member_failures text seen at m ≡ unless (not (is_in n seen)) 6 (place text at)) × (names_meant m ≡ n ∷ [])
 listed_by m n text at seen (inl e) = (rw e refl, rw e refl)
@@ -156,12 +159,12 @@ tangled_from : (ds : List Declaration) (d : Declaration) (b : Bool) (g : Failure
 tangled_from ds d true g m t e = absurd (m t)
 tangled_from ds d false g m t e = inl e
 
-look_push : (k n : ℕ) (a x : Above) (es : List (ℕ × Above)) → lookup (nat_eq k) (es ++ (n, a) ∷ []) ≡ Some x → (lookup (nat_eq k) es ≡ Some x) ⊎ ((k ≡ n) × (x ≡ a))
-look_push k n a x [] h = by (nat_eq k n) refl h where
+pub look_push : {A : Type 0} (k n : ℕ) (a x : A) (es : List (ℕ × A)) → lookup (nat_eq k) (es ++ (n, a) ∷ []) ≡ Some x → (lookup (nat_eq k) es ≡ Some x) ⊎ ((k ≡ n) × (x ≡ a))
+look_push {A} k n a x [] h = by (nat_eq k n) refl h where
   by : (b : Bool) → nat_eq k n ≡ b → cond b (Some a) None ≡ Some x → (lookup (nat_eq k) [] ≡ Some x) ⊎ ((k ≡ n) × (x ≡ a))
   by true e h = inr (grind (arith, nat_tests), cc)
   by false e h = cc
-look_push k n a x (e ∷ es) h = by (nat_eq k e.0) (look_push k n a x es) h where
+look_push {A} k n a x (e ∷ es) h = by (nat_eq k e.0) (look_push k n a x es) h where
   by : (b : Bool) → (lookup (nat_eq k) (es ++ (n, a) ∷ []) ≡ Some x → (lookup (nat_eq k) es ≡ Some x) ⊎ ((k ≡ n) × (x ≡ a))) → cond b (Some e.1) (lookup (nat_eq k) (es ++ (n, a) ∷ [])) ≡ Some x → (cond b (Some e.1) (lookup (nat_eq k) es) ≡ Some x) ⊎ ((k ≡ n) × (x ≡ a))
   by true r h = inl h
   by false r h = r h

@@ -9,7 +9,7 @@ use Rattle.th_type.specs.Subtypes.{parents}
 use Rattle.th_type.specs.Rules.{NamesDiffer, MemberFits, WellFormed}
 use Rattle.th_type.specs.Closure.{Distinct, HeadsAmong}
 use Rattle.th_type.proofs.Members.{in_map, from_map, from_append}
-use Rattle.th_type.proofs.Subtyping.{Fits, Saturated}
+use Rattle.th_type.specs.Fitting.{Fits, Saturated}
 
 type_if : (n : ℕ) (d : Declaration) (ds : List Declaration) (b : Bool) → find_type (declared_types ds) n ≡ option_map declared_type (find_decl ds n)
     → (if b then Some (declared_type d) else find_type (declared_types ds) n) ≡ option_map declared_type (if b then Some d else find_decl ds n)
@@ -131,7 +131,7 @@ well_formed_fits ds w = record {
       let m = p.2 in
       subst (λ k. ParamsBelow k t) (sym (params_found ds n p.0 p.1)) (subst (λ t. ParamsBelow p.0.params t) (sym m.is) m.below)
 
-name_among : (n : ℕ) (ds : List Declaration) → IsIn n (map (λ d. d.name) (declared_types ds)) → (d : Declaration) × IsIn d ds × (d.name ≡ n)
+pub name_among : (n : ℕ) (ds : List Declaration) → IsIn n (map (λ d. d.name) (declared_types ds)) → (d : Declaration) × IsIn d ds × (d.name ≡ n)
 name_among n ds i =
     let p = from_map (λ d. d.name) n (declared_types ds) i in
     let q = from_map declared_type p.0 ds p.1 in

@@ -5,20 +5,9 @@ use Rattle.th_type.specs.Lists.{IsIn}
 use Rattle.th_type.specs.Types.{TypeExpr, int_ty, bool_ty, text_ty, array_ty, named_ty, param_ty, TypeExprs, list_of, subst_ty, subst_tys, ParamsBelow}
 use Rattle.th_type.specs.Declarations.{DeclaredType, supers_of, params_of}
 use Rattle.th_type.specs.Subtypes.{parents, Climbs, Subtype, Reached}
+use Rattle.th_type.specs.Fitting.{Saturated, Fits}
 use Rattle.th_type.proofs.Members.{in_map, from_map, map_same, map_map}
 use Rattle.th_type.proofs.Substitution.{list_subst, subst_subst}
-
--- t is a declared type with as many arguments as parameters
-pub record Saturated (D : List DeclaredType) (t : TypeExpr) : Type 0 where
-  pub name : ℕ
-  pub args : TypeExprs
-  pub is : t ≡ named_ty name args
-  pub count : length (list_of args) ≡ params_of D name
-
--- each declared supertype is saturated, and its parameters are those of the type
-pub record Fits (D : List DeclaredType) : Type 0 where
-  pub whole : (n : ℕ) (t : TypeExpr) → IsIn t (supers_of D n) → Saturated D t
-  pub below : (n : ℕ) (t : TypeExpr) → IsIn t (supers_of D n) → ParamsBelow (params_of D n) t
 
 module _ (D : List DeclaredType) (fits : Fits D) where
   named_subst : (args : List TypeExpr) (m : ℕ) (ts : TypeExprs) → length (list_of ts) ≡ params_of D m → parents D (named_ty m (subst_tys args ts)) ≡ map (subst_ty args) (parents D (named_ty m ts))

@@ -37,3 +37,8 @@ pub record Judging (ds ps : List Declaration) (old new : Option Failure) (table 
   pub least : IsLeastOf (FailsAmong ds ps old) new
   pub climbed : new ≡ None → (n : ℕ) (a : Above) → lookup (nat_eq n) table ≡ Some a → (¬ IsTangled ds n) × Climbed (declared_types ds) n (above_of a)
   pub names : map (λ e. e.0) table ≡ map (λ d. d.name) ps
+
+-- the table has for each number just the types that it reaches, and no declared type is tangled
+pub record Ascended (ds : List Declaration) (up : ℕ → List TypeExpr) : Type 0 where
+  pub climbed : (n : ℕ) → Climbed (declared_types ds) n (up n)
+  pub free : (n : ℕ) → IsIn n (map (λ d. d.name) ds) → ¬ IsTangled ds n

@@ -11,3 +11,11 @@ pub mod Closure
 pub mod Tables
 pub mod Cycles
 pub mod Judged
+pub mod MethodTables
+pub mod Conforming
+pub mod Tests
+pub mod Codes
+pub mod Rows
+pub mod Fitting
+pub mod LatticeRight
+pub mod Refusals

@@ -1,11 +1,11 @@
 //! The supertypes that a declared type reaches.
-ghost use Rattle.std.specs.Prelude.{◌≡◌, ◌∷◌, ◌++◌, [], length, slice_get, map, option_map, IfOk, None, Some, ◌<◌, nat_eq, option_copied};
+ghost use Rattle.std.specs.Prelude.{◌≡◌, ◌∷◌, ◌++◌, [], length, slice_get, map, option_map, IfOk, None, Some, ◌<◌, nat_eq, option_copied, ℕ, ◌≤◌, ◌^◌};
 ghost use Rattle.std.specs.Map.{lookup};
-ghost use Rattle.th_type.specs.Types.{named_ty, tys_of};
-ghost use Rattle.th_type.specs.Tables.{above_of};
+ghost use Rattle.th_type.specs.Types.{TypeExprs, named_ty, ty_of, tys_of};
+ghost use Rattle.th_type.specs.Tables.{above_of, up_of, is_reached, table_subtype};
 ghost use Rattle.th_type.specs.Closure.{find_head};
 
-use crate::ty::TyList;
+use crate::ty::{Args, Ty, TyList};
 use indexmap::IndexMap;
 use std::alloc::{AllocError, Global};
 
@@ -27,7 +27,8 @@ impl Above {
 
     /// How many types there are.
     pub(crate) fn len(&self) -> usize
-        ensures { result ≡ length (above_of self.now) }
+        ensures count { result ≡ length (above_of self.now) }
+        ensures small { result < 2 ^ 63 }
     {
         self.map.len()
     }
@@ -49,6 +50,17 @@ impl Above {
                 let args = args.try_clone(alloc)?;
                 Ok((*name, args))
             }
+            None => unreachable!(),
+        }
+    }
+
+    /// The number of the declared type at place `k`.
+    pub(crate) fn name_at(&self, k: usize) -> u32
+        requires { k < length (above_of self.now) }
+        ensures { (args : TypeExprs) × (slice_get (above_of self.now) k ≡ Some (named_ty result args)) }
+    {
+        match self.map.get_index(k) {
+            Some((name, _)) => *name,
             None => unreachable!(),
         }
     }
@@ -97,5 +109,53 @@ impl Ancestors {
             Ok(_) => Ok(()),
             Err(_) => Err(AllocError),
         }
+    }
+
+    /// Whether the first type is a subtype of the second, by the table.
+    pub(crate) fn is_subtype(&self, a: &Ty, b: &Ty) -> bool
+        ensures { result ≡ table_subtype (up_of self.now.map.entries) (ty_of a.now) (ty_of b.now) }
+    {
+        a.is_same(b) || self.is_above(a, b)
+    }
+
+    /// Whether the first type is a declared type that reaches the second.
+    fn is_above(&self, a: &Ty, b: &Ty) -> bool
+        ensures { result ≡ is_reached (up_of self.now.map.entries) (ty_of a.now) (ty_of b.now) }
+    {
+        let (Ty::Named(name, args), Ty::Named(other, others)) = (a, b) else {
+            return false;
+        };
+        match self.find(*name) {
+            Some(above) => match above.find(*other) {
+                Some(list) => list.is_with(Args::List(args), others),
+                None => false,
+            },
+            None => false,
+        }
+    }
+
+    /// How many supertypes the declared type with the number reaches.
+    pub(crate) fn rank(&self, name: u32) -> usize
+        ensures { result ≡ length (up_of self.now.map.entries name) }
+    {
+        match self.find(name) {
+            Some(above) => above.len(),
+            None => 0,
+        }
+    }
+
+    /// How many supertypes a declared type reaches at most.
+    pub(crate) fn highest(&self) -> usize
+        ensures bound { (n : ℕ) → length (up_of self.now.map.entries n) ≤ result }
+        ensures small { result < 2 ^ 63 }
+    {
+        let mut highest: usize = 0;
+        for k in 0..self.map.len() {
+            match self.map.get_index(k) {
+                Some((_, above)) => highest = highest.max(above.len()),
+                None => unreachable!(),
+            }
+        }
+        highest
     }
 }

@@ -1,50 +1,11 @@
 //! Signatures, where-clauses and what stands for them. docs/LANGUAGE.md, "Types" and "Where-clauses", states what they mean.
-ghost use Rattle.std.specs.Prelude.{◌≡◌, ℕ, List, length, option_copied, slice_get};
+ghost use Rattle.std.specs.Prelude.{◌≡◌, IfOk};
+ghost use Rattle.th_type.specs.Args.{args_items};
+ghost use Rattle.th_type.specs.Signatures.{sig_of, subst_sig};
 
-use crate::ty::{Ty, TyList};
-use std::marker::Model;
-
-/// A list of numbers of 32 bits. A contract sees the list of its items.
-#[derive(Drop)]
-pub struct NumberList {
-    numbers: Vec<u32>,
-}
-
-impl Model for NumberList {
-    ghost Value = { List ℕ };
-
-    ghost view = { λ a. a.numbers.items };
-}
-
-impl NumberList {
-    /// The list of these items. It takes no memory.
-    pub fn of(items: Vec<u32>) -> Self
-        ensures { result ≡ items.items }
-    {
-        NumberList { numbers: items }
-    }
-
-    /// How many items the list has.
-    pub fn len(&self) -> usize
-        ensures { result ≡ length self.now }
-    {
-        self.numbers.len()
-    }
-
-    /// The item at place `k`, from 0; None exactly where `k` is not below the length.
-    pub fn get(&self, k: usize) -> Option<&u32>
-        ensures { option_copied result ≡ slice_get self.now k }
-    {
-        self.numbers.get(k)
-    }
-
-    /// The items as a slice.
-    pub fn as_slice(&self) -> &[u32]
-        ensures { result.now ≡ self.now }
-    {
-        &self.numbers
-    }
-}
+use crate::lists::NumberList;
+use crate::ty::{Args, Ty, TyList};
+use std::alloc::{AllocError, Global};
 
 /// A signature, with its names resolved.
 #[derive(Drop)]
@@ -57,6 +18,46 @@ pub struct Sig {
     pub gives: Option<Ty>,
     /// The numbers of the full names of the exceptions that it may raise.
     pub signals: NumberList,
+}
+
+impl Sig {
+    /// A second signature, equal to this one.
+    pub fn try_clone(&self, alloc: Global) -> Result<Sig, AllocError>
+        ensures { IfOk result (λ s. sig_of s ≡ sig_of self.now) }
+    {
+        let formals = self.formals.try_clone(alloc)?;
+        let gives = match &self.gives {
+            Some(gives) => Some(gives.try_clone(alloc)?),
+            None => None,
+        };
+        let signals = self.signals.try_clone(alloc)?;
+        Ok(Sig {
+            method: self.method,
+            iterator: self.iterator,
+            formals,
+            gives,
+            signals,
+        })
+    }
+
+    /// The signature with the k-th argument in place of each parameter `k`; a parameter without one stays.
+    pub(crate) fn with_args(&self, alloc: Global, args: Args<'_>) -> Result<Sig, AllocError>
+        ensures { IfOk result (λ s. sig_of s ≡ subst_sig (args_items args.entry) (sig_of self.now)) }
+    {
+        let formals = self.formals.with_args(alloc, args)?;
+        let gives = match &self.gives {
+            Some(gives) => Some(gives.with_args(alloc, args)?),
+            None => None,
+        };
+        let signals = self.signals.try_clone(alloc)?;
+        Ok(Sig {
+            method: self.method,
+            iterator: self.iterator,
+            formals,
+            gives,
+            signals,
+        })
+    }
 }
 
 /// A where-clause: the type parameter at place `param` of the item has a method with this signature.

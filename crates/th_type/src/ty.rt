@@ -4,6 +4,7 @@
 //! that lists are walked and dropped by loops.
 ghost use Rattle.std.specs.Prelude.{◌≡◌, ◌-◌, ◌^◌, length, min, slice_get, map, option_map, IfOk, MatchOption, option_copied, IsTrue, ◌↔◌, ◌≤◌};
 ghost use Rattle.th_type.specs.Args.{args_items};
+ghost use Rattle.th_type.specs.Conforming.{is_param_ty};
 ghost use Rattle.th_type.specs.Types.{ty_of, tys_of, list_of, tys_onto, ty_height, tys_height, subst_ty, subst_tys, same_ty, same_tys, arg_at, param_ty, ParamsBelow, AllParamsBelow};
 
 use std::alloc::{AllocError, Global};
@@ -286,5 +287,75 @@ impl TyList {
             rest = next;
         }
         Ok(done.turned(TyList::NoTy))
+    }
+}
+
+impl Ty {
+    /// Whether the type, with arguments in place of parameters, is the other.
+    #[cycle(matching)]
+    pub(crate) fn is_with(&self, args: Args<'_>, other: &Ty) -> bool
+        ensures { result ≡ same_ty (subst_ty (args_items args.entry) (ty_of self.now)) (ty_of other.now) }
+    {
+        match self {
+            Ty::Int => matches!(other, Ty::Int),
+            Ty::Bool => matches!(other, Ty::Bool),
+            Ty::Text => matches!(other, Ty::Text),
+            Ty::Array(of) => match other {
+                Ty::Array(other) => of.is_with(args, other),
+                _ => false,
+            },
+            Ty::Named(name, list) => match other {
+                Ty::Named(other, others) => *name == *other && list.is_with(args, others),
+                _ => false,
+            },
+            Ty::Param(place) => match args.get(*place) {
+                Some(arg) => arg.is_same(other),
+                None => other.is_param(*place),
+            },
+        }
+    }
+
+    /// Whether the type is a parameter.
+    pub(crate) fn is_any_param(&self) -> bool
+        ensures { result ≡ is_param_ty (ty_of self.now) }
+    {
+        match self {
+            Ty::Param(_) => true,
+            _ => false,
+        }
+    }
+
+    /// Whether the type is the parameter at the place.
+    fn is_param(&self, place: u32) -> bool
+        ensures { result ≡ same_ty (param_ty place) (ty_of self.now) }
+    {
+        match self {
+            Ty::Param(other) => place == *other,
+            _ => false,
+        }
+    }
+}
+
+impl TyList {
+    /// Whether the types, with arguments in place of parameters, are the others in order.
+    #[cycle(matching)]
+    pub(crate) fn is_with(&self, args: Args<'_>, others: &TyList) -> bool
+        ensures { result ≡ same_tys (subst_tys (args_items args.entry) (tys_of self.now)) (tys_of others.now) }
+    {
+        let mut left = self;
+        let mut right = others;
+        loop {
+            match (left, right) {
+                (TyList::NoTy, TyList::NoTy) => return true,
+                (TyList::MoreTy(a, more), TyList::MoreTy(b, rest)) => {
+                    if !a.is_with(args, b) {
+                        return false;
+                    }
+                    left = more;
+                    right = rest;
+                }
+                _ => return false,
+            }
+        }
     }
 }

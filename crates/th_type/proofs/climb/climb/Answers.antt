@@ -33,4 +33,4 @@ loop-done-preserved c =
 
 pub returns : goal.returns
 returns c =
-    climbing_done (declared_types (defs_of c.args.defs.now)) c.args.name (above_of c.loop-done.above) c.loop-done.done c.loop-done.invariant (subst (λ n. n ≤ c.loop-done.done) c.len.ensures c.loop-done-test.false)
+    climbing_done (declared_types (defs_of c.args.defs.now)) c.args.name (above_of c.loop-done.above) c.loop-done.done c.loop-done.invariant (subst (λ n. n ≤ c.loop-done.done) c.len.ensures.count c.loop-done-test.false)

@@ -1,7 +1,7 @@
 use Rattle.std.proofs.Common.{◌∙◌, ap, map}
 use Rattle.indexmap.proofs.CallerLemmas.{insert_entry-new}
 use Rattle.th_type.specs.Tables.{entry_decl}
-use Rattle.th_type.proofs.Tables.{decl_absent, decls_push}
+use Rattle.th_type.proofs.Lookups.{decl_absent, decls_push}
 use Rattle.th_type.proofs.defs.put.Goals as goal
 
 pub returns-in-Ok : goal.returns-in-Ok

@@ -1,4 +1,4 @@
-use Rattle.th_type.proofs.Tables.{head_found_by}
+use Rattle.th_type.proofs.Lookups.{head_found_by}
 use Rattle.th_type.proofs.above.Above.find.Goals as goal
 
 pub returns : goal.returns

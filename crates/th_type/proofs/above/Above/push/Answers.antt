@@ -1,7 +1,7 @@
 use Rattle.std.proofs.Common.{◌∙◌, ap, map}
 use Rattle.indexmap.proofs.CallerLemmas.{insert_entry-new}
 use Rattle.th_type.specs.Tables.{entry_ty}
-use Rattle.th_type.proofs.Tables.{head_absent, heads_push}
+use Rattle.th_type.proofs.Lookups.{head_absent, heads_push}
 use Rattle.th_type.proofs.above.Above.push.Goals as goal
 
 pub returns-in-Ok : goal.returns-in-Ok

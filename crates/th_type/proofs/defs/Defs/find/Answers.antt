@@ -1,4 +1,4 @@
-use Rattle.th_type.proofs.Tables.{decl_found_by}
+use Rattle.th_type.proofs.Lookups.{decl_found_by}
 use Rattle.th_type.proofs.defs.Defs.find.Goals as goal
 
 pub returns : goal.returns
