@@ -1,0 +1,13 @@
+pub mod Finding
+pub mod Failing
+pub mod Walking
+pub mod Mapped
+pub mod Signalled
+pub mod Growing
+pub mod Below
+pub mod Keeping
+pub mod Founded
+pub mod Fitting
+pub mod Exact
+pub mod FullNames
+pub mod Refusing

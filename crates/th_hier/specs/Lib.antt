@@ -1,0 +1,10 @@
+pub mod Naming
+pub mod Resolve
+pub mod Spots
+pub mod Heads
+pub mod Views
+pub mod Texts
+pub mod Numbering
+pub mod Scopes
+pub mod Hierarchies
+pub mod Answers

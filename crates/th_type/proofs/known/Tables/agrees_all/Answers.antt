@@ -1,0 +1,11 @@
+use Rattle.th_type.specs.MethodTables.{method_in}
+use Rattle.th_type.specs.Tests.{agrees_type}
+use Rattle.th_type.specs.Tables.{tables_methods}
+use Rattle.th_type.proofs.Testing.{members_more, members_false}
+use Rattle.th_type.proofs.known.Tables.agrees_all.Goals as goal
+
+pub returns-then-not-branch : goal.returns-then-not-branch
+returns-then-not-branch c = members_false (agrees_type (tables_methods c.args.self.now) c.args.written.now.keys (method_in (tables_methods c.args.self.now) c.args.name)) c.args.members.now c.loop-member.member-index c.member-item.result c.in_ok-agrees_member.field-0 c.loop-member-test.true c.member-item.is c.in_ok-agrees_member.ensures c.if-not-branch.true
+
+pub loop-member-preserved : goal.loop-member-preserved
+loop-member-preserved c = members_more (agrees_type (tables_methods c.args.self.now) c.args.written.now.keys (method_in (tables_methods c.args.self.now) c.args.name)) c.args.members.now c.loop-member.member-index c.member-item.result c.in_ok-agrees_member.field-0 c.loop-member-test.true c.member-item.is c.in_ok-agrees_member.ensures c.if-not-branch.false c.loop-member.invariant

@@ -1,0 +1,10 @@
+use Rattle.std.proofs.Common.{sym, ap}
+use Rattle.th_type.specs.Declarations.{params_in}
+use Rattle.th_type.proofs.RowLists.{row_some, row_none}
+use Rattle.th_type.proofs.lattice.Lattice.params_of.Goals as goal
+
+pub returns-in-Some : goal.returns-in-Some
+returns-in-Some c = sym (ap params_in (row_some c.args.head c.self.inside.rows.entries c.args.self.now c.in-Some.row.now c.self.view_is c.in-Some.ensures.value))
+
+pub returns-in-None : goal.returns-in-None
+returns-in-None c = sym (ap params_in (row_none c.args.head c.self.inside.rows.entries c.args.self.now c.self.view_is c.in-None.ensures.value))

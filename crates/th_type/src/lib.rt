@@ -1,0 +1,27 @@
+//! Resolved types and signatures, and the lattice of declared types. docs/LANGUAGE.md, "Types", states what they mean.
+#![tactic(auto)]
+
+
+mod above;
+mod climb;
+mod conform;
+mod cycles;
+mod defs;
+mod judge;
+mod lattice;
+mod lists;
+mod methods;
+mod place;
+mod rows;
+mod sig;
+mod known;
+mod ty;
+mod typedef;
+
+
+pub use place::{Failure, Place, What, demand};
+pub use lattice::{Lattice, LatticeError};
+pub use lists::NumberList;
+pub use sig::{Clause, Prim, Sig, Supply};
+pub use ty::{Ty, TyList, substitute, substitute_list};
+pub use typedef::{Meaning, Supertype, TypeDef, Written};
