@@ -2,7 +2,7 @@
 use Rattle.std.specs.Prelude.{◌≡◌, ℕ, zero, suc, Bool, List, [], ◌∷◌, Option, refl}
 use Rattle.std.specs.Coded.{Coded, code_by, coded×, coded_ℕ, coded_bool, coded_list, coded_option}
 use Rattle.th_type.specs.Types.{TypeExpr, int_ty, bool_ty, text_ty, array_ty, named_ty, param_ty, TypeExprs, no_ty, more_ty}
-use Rattle.th_type.specs.Signatures.{Signature}
+use Rattle.th_type.specs.Signatures.{Signature, Constraint}
 use Rattle.th_type.specs.Declarations.{DeclaredType}
 
 abbrev mutual
@@ -88,27 +88,31 @@ abbrev pub steps_code : Coded (List (ℕ × ℕ))
 steps_code = coded_list (coded× coded_ℕ coded_ℕ)
 
 -- a type is stored as its steps
-abbrev pub type_code : Coded TypeExpr
-type_code = code_by (List (ℕ × ℕ)) steps_code (λ t. steps_of t []) (λ ss. top (run ss [])) type_back
+abbrev pub coded_type : Coded TypeExpr
+coded_type = code_by (List (ℕ × ℕ)) steps_code (λ t. steps_of t []) (λ ss. top (run ss [])) type_back
 
 -- types are stored as their steps
-abbrev pub types_code : Coded TypeExprs
-types_code = code_by (List (ℕ × ℕ)) steps_code (λ ts. all_steps ts []) (λ ss. parts (top (run ss []))) types_back
+abbrev pub coded_types : Coded TypeExprs
+coded_types = code_by (List (ℕ × ℕ)) steps_code (λ ts. all_steps ts []) (λ ss. parts (top (run ss []))) types_back
 
 -- a signature is stored as its fields
-abbrev pub signature_code : Coded Signature
-signature_code =
+abbrev pub coded_signature : Coded Signature
+coded_signature =
     code_by (ℕ × (Bool × (TypeExprs × (Option TypeExpr × List ℕ))))
-      (coded× coded_ℕ (coded× coded_bool (coded× types_code (coded× (coded_option type_code) (coded_list coded_ℕ)))))
+      (coded× coded_ℕ (coded× coded_bool (coded× coded_types (coded× (coded_option coded_type) (coded_list coded_ℕ)))))
       (λ s. (s.method, (s.iterator, (s.formals, (s.gives, s.signals)))))
       (λ p. record { method = p.0; iterator = p.1.0; formals = p.1.1.0; gives = p.1.1.1.0; signals = p.1.1.1.1 })
       (λ _. refl)
 
 -- a declared type is stored as its fields
-abbrev pub declared_code : Coded DeclaredType
-declared_code =
+abbrev pub coded_declared : Coded DeclaredType
+coded_declared =
     code_by (ℕ × (ℕ × (List TypeExpr × List Signature)))
-      (coded× coded_ℕ (coded× coded_ℕ (coded× (coded_list type_code) (coded_list signature_code))))
+      (coded× coded_ℕ (coded× coded_ℕ (coded× (coded_list coded_type) (coded_list coded_signature))))
       (λ d. (d.name, (d.params, (d.supertypes, d.written))))
       (λ p. record { name = p.0; params = p.1.0; supertypes = p.1.1.0; written = p.1.1.1 })
       (λ _. refl)
+
+-- a where-clause is stored as its fields
+abbrev pub coded_constraint : Coded Constraint
+coded_constraint = code_by (ℕ × Signature) (coded× coded_ℕ coded_signature) (λ c. (c.param, c.sig)) (λ p. record { param = p.0; sig = p.1 }) (λ _. refl)

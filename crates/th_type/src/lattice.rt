@@ -48,14 +48,14 @@ impl Model for Lattice {
     ghost use Rattle.std.specs.Prelude.{List};
     ghost use Rattle.std.specs.Coded.{coded_list};
     ghost use Rattle.th_type.specs.Declarations.{DeclaredType};
-    ghost use Rattle.th_type.specs.Codes.{declared_code};
+    ghost use Rattle.th_type.specs.Codes.{coded_declared};
     ghost use Rattle.th_type.specs.Rows.{rows_of};
     ghost use Rattle.th_type.specs.Tables.{tables_up, tables_methods};
     ghost use Rattle.th_type.specs.LatticeRight.{LatticeRight};
 
     ghost Value = { List DeclaredType };
 
-    ghost coded = { coded_list declared_code };
+    ghost coded = { coded_list coded_declared };
 
     ghost view = { λ a. rows_of a.rows.entries };
 

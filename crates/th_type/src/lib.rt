@@ -3,6 +3,7 @@
 
 
 mod above;
+mod clauses;
 mod climb;
 mod conform;
 mod cycles;
@@ -20,6 +21,7 @@ mod typedef;
 
 
 pub use place::{Failure, Place, What, demand};
+pub use clauses::{ClauseList, SupplyList};
 pub use lattice::{Lattice, LatticeError};
 pub use lists::NumberList;
 pub use sig::{Clause, Prim, Sig, Supply};

@@ -1,5 +1,6 @@
 //! Signatures, where-clauses and what stands for them. docs/LANGUAGE.md, "Types" and "Where-clauses", states what they mean.
-ghost use Rattle.std.specs.Prelude.{◌≡◌, IfOk};
+ghost use Rattle.std.specs.Prelude.{◌≡◌, map, IfOk};
+ghost use Rattle.th_type.specs.Types.{ty_of};
 ghost use Rattle.th_type.specs.Args.{args_items};
 ghost use Rattle.th_type.specs.Signatures.{sig_of, subst_sig};
 
@@ -41,6 +42,13 @@ impl Sig {
     }
 
     /// The signature with the k-th argument in place of each parameter `k`; a parameter without one stays.
+    pub fn substitute(&self, alloc: Global, args: &[Ty]) -> Result<Sig, AllocError>
+        ensures { IfOk result (λ s. sig_of s ≡ subst_sig (map ty_of args.now) (sig_of self.now)) }
+    {
+        self.with_args(alloc, Args::Slice(args))
+    }
+
+    /// The same, of arguments in a slice or a list.
     pub(crate) fn with_args(&self, alloc: Global, args: Args<'_>) -> Result<Sig, AllocError>
         ensures { IfOk result (λ s. sig_of s ≡ subst_sig (args_items args.entry) (sig_of self.now)) }
     {
