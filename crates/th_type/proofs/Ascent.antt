@@ -71,8 +71,9 @@ is_subtype_is D f up c text_ty b h = self_is up text_ty b (subtype_self D text_t
 is_subtype_is D f up c (array_ty t) b h = self_is up (array_ty t) b (subtype_self D (array_ty t) b refl h)
 is_subtype_is D f up c (param_ty k) b h = self_is up (param_ty k) b (subtype_self D (param_ty k) b refl h)
 is_subtype_is D f up c (named_ty n args) b h = elim (subtype_from D f n args b h) [
-    inl e ↦ self_is up (named_ty n args) b e
-  | inr r ↦ (let i = (c n).heads r.0 ((c n).all r.0 r.1) in or_right (same_ty (named_ty n args) b) (is_reached up (named_ty n args) b) (reached_is D f up c n i.0 args i.1 r.0 r.1 i.2 b r.2)) ]
+  | inl e ↦ self_is up (named_ty n args) b e
+  | inr r ↦ (let i = (c n).heads r.0 ((c n).all r.0 r.1) in or_right (same_ty (named_ty n args) b) (is_reached up (named_ty n args) b) (reached_is D f up c n i.0 args i.1 r.0 r.1 i.2 b r.2))
+]
 
 -- the table decides the subtype relation
 pub table_decides : (D : List DeclaredType) → Fits D → (up : ℕ → List TypeExpr) → Ascends D up → (a b : TypeExpr) (r : Bool) → r ≡ table_subtype up a b → IsTrue r ↔ Subtype D a b

@@ -55,5 +55,5 @@ declared n k ts ss = record { name = n; params = k; supertypes = ts; written = s
 pub row_is : (n : ℕ) (def : TypeDef) (r : Row) → r.params ≡ def.params → map ty_of r.supertypes.items ≡ resolved (map super_of def.supertypes.items) → map sig_of r.written.items ≡ written_sigs def.methods.items → row_of (n, r) ≡ declared_type (named_decl n def)
 row_is n def r p t s =
     ap (λ k. declared n k (map ty_of r.supertypes.items) (map sig_of r.written.items)) p
-  ∙ ap (λ ts. declared n def.params ts (map sig_of r.written.items)) t
-  ∙ ap (declared n def.params (resolved (map super_of def.supertypes.items))) (s ∙ written_same def.methods.items)
+    ∙ ap (λ ts. declared n def.params ts (map sig_of r.written.items)) t
+    ∙ ap (declared n def.params (resolved (map super_of def.supertypes.items))) (s ∙ written_same def.methods.items)

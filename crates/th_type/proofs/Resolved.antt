@@ -125,6 +125,7 @@ well_formed_fits ds w = record {
       let f = decl_there m.decl ds w.differ m.there in
       let c : params_of (declared_types ds) m.decl.name ≡ m.decl.params = params_found ds m.decl.name m.decl f in
       record { name = m.name; args = m.args; is = m.is; count = m.count ∙ sym (subst (λ k. params_of (declared_types ds) k ≡ m.decl.params) m.called c) }
+
   below_of : (n : ℕ) (t : TypeExpr) → IsIn t (supers_of (declared_types ds) n) → ParamsBelow (params_of (declared_types ds) n) t
   below_of n t h =
       let p = meaning_at ds w n t h in

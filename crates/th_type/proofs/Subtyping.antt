@@ -13,7 +13,7 @@ module _ (D : List DeclaredType) (fits : Fits D) where
   named_subst : (args : List TypeExpr) (m : ℕ) (ts : TypeExprs) → length (list_of ts) ≡ params_of D m → parents D (named_ty m (subst_tys args ts)) ≡ map (subst_ty args) (parents D (named_ty m ts))
   named_subst args m ts h =
       map_same (subst_ty (list_of (subst_tys args ts))) (λ s. subst_ty args (subst_ty (list_of ts) s)) (supers_of D m)
-        (λ s i. rw (list_subst args ts) (sym (subst_subst args (list_of ts) s (subst (λ n. ParamsBelow n s) (sym h) (fits.below m s i)))))
+      (λ s i. rw (list_subst args ts) (sym (subst_subst args (list_of ts) s (subst (λ n. ParamsBelow n s) (sym h) (fits.below m s i)))))
       ∙ sym (map_map (subst_ty (list_of ts)) (subst_ty args) (supers_of D m))
 
   -- the declared supertypes of a type with arguments substituted are those of the type, with arguments substituted

@@ -47,15 +47,15 @@ taken_one args s = ap (map (subst_ty (list_of args))) (append_none (types_meant 
 pub taken_more : (args : TypeExprs) (ms : List Supertype) (i : ℕ) (d : Supertype) → i < length ms → all_taken args (map super_of (take (i + 1) ms)) ≡ all_taken args (map super_of (take i ms)) ++ taken args (meant_of (get_or ms i d).meaning)
 taken_more args ms i d h =
     ap (λ ts. all_taken args (map super_of ts)) (take_more ms i d h)
-  ∙ ap (all_taken args) (map-append super_of (take i ms) (get_or ms i d ∷ []))
-  ∙ taken_append args (map super_of (take i ms)) (super_of (get_or ms i d) ∷ [])
-  ∙ ap (λ ts. all_taken args (map super_of (take i ms)) ++ ts) (taken_one args (get_or ms i d))
+    ∙ ap (all_taken args) (map-append super_of (take i ms) (get_or ms i d ∷ []))
+    ∙ taken_append args (map super_of (take i ms)) (super_of (get_or ms i d) ∷ [])
+    ∙ ap (λ ts. all_taken args (map super_of (take i ms)) ++ ts) (taken_one args (get_or ms i d))
 
 pub all_more : (args : TypeExprs) (ms : List Supertype) (i : ℕ) → all_taken args (map super_of ms) ≡ all_taken args (map super_of (take i ms)) ++ all_taken args (map super_of (drop i ms))
 all_more args ms i =
     ap (λ ts. all_taken args (map super_of ts)) (sym (take-append-drop i ms))
-  ∙ ap (all_taken args) (map-append super_of (take i ms) (drop i ms))
-  ∙ taken_append args (map super_of (take i ms)) (map super_of (drop i ms))
+    ∙ ap (all_taken args) (map-append super_of (take i ms) (drop i ms))
+    ∙ taken_append args (map super_of (take i ms)) (map super_of (drop i ms))
 
 -- a further member is taken
 pub took_more : (args : TypeExprs) (ms : List Supertype) (i : ℕ) (d : Supertype) (xs ys zs : List TypeExpr) → i < length ms → d ≡ get_or ms i d → Took xs (all_taken args (map super_of (take i ms))) ys → Took ys (taken args (meant_of d.meaning)) zs → Took xs (all_taken args (map super_of (take (i + 1) ms))) zs

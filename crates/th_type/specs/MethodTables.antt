@@ -58,7 +58,7 @@ pub record Settled (D : List DeclaredType) (up : ℕ → List TypeExpr) (n : ℕ
 -- the declared type was put into the table where it was not there
 abbrev pub Put : List (ℕ × Vec Sig) → List (ℕ × Vec Sig) → Declaration → Type 0
 Put es fs d = ((fs ≡ es) × (lookup (nat_eq d.name) es ≡ None → ⊥))
-  ⊎ ((v : Vec Sig) × (fs ≡ es ++ (d.name, v) ∷ []) × Joined es (map (λ w. w.sig) d.methods) (resolved d.supertypes) (map sig_of v.items))
+    ⊎ ((v : Vec Sig) × (fs ≡ es ++ (d.name, v) ∷ []) × Joined es (map (λ w. w.sig) d.methods) (resolved d.supertypes) (map sig_of v.items))
 
 -- the table has the methods of declared types, of all that reach fewer than r supertypes, and of those of ps that reach r
 pub record Filling (D : List DeclaredType) (up : ℕ → List TypeExpr) (es : List (ℕ × Vec Sig)) (r : ℕ) (ps : List Declaration) : Type 0 where

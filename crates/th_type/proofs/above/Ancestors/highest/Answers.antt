@@ -15,4 +15,4 @@ loop-k-preserved c = record {
 pub returns-clause-bound : goal.returns-clause-bound
 returns-clause-bound c =
     highest_bound c.args.self.now.map.entries c.loop-k.highest
-      (λ e i. c.loop-k.invariant.bound e (in_take_all e c.loop-k.k c.args.self.now.map.entries (let a = c.len-k-end.ensures.len in let b = c.loop-k-test.false in omega (arith, a, b)) i))
+    (λ e i. c.loop-k.invariant.bound e (in_take_all e c.loop-k.k c.args.self.now.map.entries (let a = c.len-k-end.ensures.len in let b = c.loop-k-test.false in omega (arith, a, b)) i))
