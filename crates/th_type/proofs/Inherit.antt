@@ -201,11 +201,11 @@ module _ (ds : List Declaration) (w : WellFormed ds) (up : ℕ → List TypeExpr
 
   pub conforms_to : (n : ℕ) (s t : Signature) → conforms_test up (method_in es) n s t ≡ true → Conforms (declared_types ds) n s t
   conforms_to n s t h =
-      let D4 = not (is_fixed up (method_in es) n t.method) || same_gives s.gives t.gives in
-      let p = both (same_bool s.iterator t.iterator) (same_tys s.formals t.formals && (all_in s.signals t.signals && (gives_fit up s.iterator s.gives t.gives && D4))) h in
-      let q = both (same_tys s.formals t.formals) (all_in s.signals t.signals && (gives_fit up s.iterator s.gives t.gives && D4)) p.1 in
-      let u = both (all_in s.signals t.signals) (gives_fit up s.iterator s.gives t.gives && D4) q.1 in
-      let v = both (gives_fit up s.iterator s.gives t.gives) D4 u.1 in
+      let kept = not (is_fixed up (method_in es) n t.method) || same_gives s.gives t.gives in
+      let p = both (same_bool s.iterator t.iterator) (same_tys s.formals t.formals && (all_in s.signals t.signals && (gives_fit up s.iterator s.gives t.gives && kept))) h in
+      let q = both (same_tys s.formals t.formals) (all_in s.signals t.signals && (gives_fit up s.iterator s.gives t.gives && kept)) p.1 in
+      let u = both (all_in s.signals t.signals) (gives_fit up s.iterator s.gives t.gives && kept) q.1 in
+      let v = both (gives_fit up s.iterator s.gives t.gives) kept u.1 in
       record {
         iterator = bool_to s.iterator t.iterator p.0;
         formals = sames_equal s.formals t.formals q.0;
@@ -216,11 +216,11 @@ module _ (ds : List Declaration) (w : WellFormed ds) (up : ℕ → List TypeExpr
 
   pub conforms_from : (n : ℕ) (s t : Signature) → Conforms (declared_types ds) n s t → conforms_test up (method_in es) n s t ≡ true
   conforms_from n s t c =
-      let D4 = not (is_fixed up (method_in es) n t.method) || same_gives s.gives t.gives in
-      both_true (same_bool s.iterator t.iterator) (same_tys s.formals t.formals && (all_in s.signals t.signals && (gives_fit up s.iterator s.gives t.gives && D4))) (bool_from s.iterator t.iterator c.iterator)
-      (both_true (same_tys s.formals t.formals) (all_in s.signals t.signals && (gives_fit up s.iterator s.gives t.gives && D4)) (subst (λ fs. same_tys s.formals fs ≡ true) c.formals (sames_self s.formals))
-      (both_true (all_in s.signals t.signals) (gives_fit up s.iterator s.gives t.gives && D4) (all_in_from s.signals t.signals c.signals)
-      (both_true (gives_fit up s.iterator s.gives t.gives) D4 (fit_from s.iterator s.gives t.gives c.gives)
+      let kept = not (is_fixed up (method_in es) n t.method) || same_gives s.gives t.gives in
+      both_true (same_bool s.iterator t.iterator) (same_tys s.formals t.formals && (all_in s.signals t.signals && (gives_fit up s.iterator s.gives t.gives && kept))) (bool_from s.iterator t.iterator c.iterator)
+      (both_true (same_tys s.formals t.formals) (all_in s.signals t.signals && (gives_fit up s.iterator s.gives t.gives && kept)) (subst (λ fs. same_tys s.formals fs ≡ true) c.formals (sames_self s.formals))
+      (both_true (all_in s.signals t.signals) (gives_fit up s.iterator s.gives t.gives && kept) (all_in_from s.signals t.signals c.signals)
+      (both_true (gives_fit up s.iterator s.gives t.gives) kept (fit_from s.iterator s.gives t.gives c.gives)
       (not_or_from (is_fixed up (method_in es) n t.method) (same_gives s.gives t.gives) (λ e. gives_from s.gives t.gives (c.fixed (fixed_to n t.method e)))))))
 
   at_is : (n m : ℕ) (args : TypeExprs) → method_at (declared_types ds) (named_ty n args) m ≡ option_map (subst_sig (list_of args)) (method_in es n m)
