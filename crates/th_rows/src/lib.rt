@@ -17,19 +17,9 @@ mod outside;
 #[cfg(test)]
 mod programs;
 #[cfg(test)]
-mod refusals;
-#[cfg(test)]
 mod samples;
 #[cfg(test)]
 mod segments;
-#[cfg(test)]
-mod show;
-#[cfg(test)]
-mod show_items;
-#[cfg(test)]
-mod tokens;
-#[cfg(test)]
-mod trees;
 #[cfg(test)]
 mod watchers;
 #[cfg(test)]

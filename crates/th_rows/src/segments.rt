@@ -38,9 +38,10 @@ fn file_of(
     parts: &[Part<'_>],
 ) -> Result<Vec<u8>, AllocError> {
     assert!(rt; parts.len() < 10);
-    let mut file = GREETING[..24].to_vec(alloc)?;
+    let header = &GREETING[..];
+    let mut file = header[..24].to_vec(alloc)?;
     append(&mut file, entry)?;
-    file.extend_from_slice(&GREETING[28..44])?;
+    file.extend_from_slice(&header[28..44])?;
     append(&mut file, parts.len() as u32)?;
     append(&mut file, 0)?;
     let mut offset = 52 + 32 * parts.len() as u32;

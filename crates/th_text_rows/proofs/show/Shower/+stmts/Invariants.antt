@@ -2,7 +2,7 @@ use Rattle.std.proofs.Common.{◌≤◌}
 use Rattle.th_tree.specs.declared.tree.Body.{size-Body}
 use Rattle.th_tree.specs.declared.tree.ElseTree.{size-ElseTree}
 use Rattle.th_tree.specs.declared.tree.WhenList.{size-WhenList}
-use Rattle.th_rows.proofs.show.Shower.+stmts.Given as goal
+use Rattle.th_text_rows.proofs.show.Shower.+stmts.Given as goal
 
 abbrev pub invariant-body-loop-left : goal.invariant-body-loop-left
 invariant-body-loop-left l = size-Body l.left ≤ size-Body l.fn.list
