@@ -1,6 +1,5 @@
 -- Types that resolve have only type parameters that can be seen.
-use Rattle.std.proofs.Common.{◌≡◌, ℕ, zero, suc, ◌+◌, ◌<◌, ◌≤◌, Bool, true, false, nat_eq, ◌||◌, List, [], ◌∷◌, ◌++◌, length, position, Option, Some, None, refl, sym, ap, ◌∙◌, subst, arith, if◌then◌else◌}
-use Rattle.std.proofs.lemmas.Bool.{eqb-true}
+use Rattle.std.proofs.Common.{◌≡◌, ℕ, ◌+◌, ◌<◌, ◌≤◌, Bool, true, false, nat_eq, ◌||◌, length, position, Option, Some, None, refl, subst, arith, if◌then◌else◌}
 use Rattle.std.proofs.lemmas.List.Quantifiers.{position-Some}
 use Rattle.th_tree.specs.declared.tree.Ident.{Ident}
 use Rattle.th_tree.specs.declared.tree.RefTree.{RefTree}
@@ -12,7 +11,7 @@ use Rattle.th_hier.specs.declared.item.Sort.{Sort}
 use Rattle.th_hier.specs.declared.item.Sort.TheVariants.{Exception, Declared, Class, Routine, Iterator}
 use Rattle.th_hier.specs.declared.item.Referent.{Referent}
 use Rattle.th_hier.specs.declared.item.Referent.TheVariants as referents
-use Rattle.th_hier.specs.Naming.{Items, Visible, has, is_number, item_at, item_in, own_or, param_or, bare_meaning, full_meaning, named_meaning, meaning}
+use Rattle.th_hier.specs.Naming.{Items, Visible, has, is_number, item_at, item_in, own_or, param_or, bare_meaning, named_meaning, meaning}
 use Rattle.th_hier.specs.Resolve.{count, sort_type, referent_type, array_of, before_types, resolved_type, resolved_types}
 
 -- what a name means: a type parameter that can be seen, or an item

@@ -1,6 +1,5 @@
 -- A type's tree means a type exactly where none of its names fails.
 use Rattle.std.proofs.Common.{◌≡◌, ℕ, Bool, true, false, ◌&&◌, nat_eq, List, [], ◌∷◌, ◌++◌, Option, Some, None, is_some, refl, sym, ap, ◌∙◌, ◌⊎◌, inl, inr, if◌then◌else◌, true≢false, subst}
-use Rattle.th_tree.specs.declared.tree.RefTree.{RefTree}
 use Rattle.th_tree.specs.Trees.{TypeSyn, int_type, bool_type, text_type, array_type, named_type, TypeSyns, no_type, more_types}
 use Rattle.th_type.specs.declared.place.Place.{Place}
 use Rattle.th_type.specs.declared.place.Failure.{Failure}
@@ -11,7 +10,6 @@ use Rattle.th_type.proofs.Members.{from_append}
 use Rattle.th_type.proofs.Least.{least_lowest, least_alike}
 use Rattle.th_hier.specs.declared.item.Sort.{Sort}
 use Rattle.th_hier.specs.declared.item.Sort.TheVariants.{Exception, Declared, Class, Routine, Iterator}
-use Rattle.th_hier.specs.declared.item.Entry.{Entry}
 use Rattle.th_hier.specs.declared.item.Referent.{Referent}
 use Rattle.th_hier.specs.declared.item.Referent.TheVariants as referents
 use Rattle.th_hier.specs.Naming.{Items, Visible, meaning}

@@ -1,16 +1,15 @@
 -- The declared types of interfaces fit together.
-use Rattle.std.proofs.Common.{◌≡◌, ℕ, ◌+◌, ◌≤◌, Bool, true, false, nat_eq, ◌&&◌, ◌||◌, List, [], ◌∷◌, ◌++◌, map, length, Option, Some, None, refl, sym, ap, ◌∙◌, ◌⊎◌, inl, inr, if◌then◌else◌, true≢false, subst, arith}
+use Rattle.std.proofs.Common.{◌≡◌, ℕ, ◌+◌, ◌≤◌, Bool, true, false, nat_eq, List, [], ◌∷◌, ◌++◌, map, length, Option, Some, None, refl, sym, ap, ◌∙◌, inl, inr, if◌then◌else◌, true≢false, subst, arith}
 use Rattle.std.proofs.lemmas.Bool.{eqb-true}
 use Rattle.std.proofs.lemmas.List.{length-append, length-map}
 use borrow.Author.Tests.{eq-eqb}
 use Rattle.th_tree.specs.declared.tree.Ident.{Ident}
-use Rattle.th_tree.specs.declared.tree.RefTree.{RefTree}
-use Rattle.th_tree.specs.Trees.{TypeSyn, TypeSyns, NamedSyn, SigSyn, TypeDeclSyn, InterfaceItemSyn, exception_item, type_item, class_item, routine_item, InterfaceSyn}
+use Rattle.th_tree.specs.Trees.{TypeSyn, NamedSyn, SigSyn, TypeDeclSyn, InterfaceItemSyn, exception_item, type_item, class_item, routine_item, InterfaceSyn}
 use Rattle.th_type.specs.declared.place.Place.{Place}
 use Rattle.th_type.specs.Lists.{IsIn}
-use Rattle.th_type.specs.Types.{TypeExpr, TypeExprs, list_of, ParamsBelow, AllParamsBelow}
+use Rattle.th_type.specs.Types.{TypeExpr, TypeExprs, list_of, AllParamsBelow}
 use Rattle.th_type.specs.Signatures.{Signature}
-use Rattle.th_type.specs.Declarations.{Meant, unresolved, parameter, by_head, whole, SuperRef, WrittenSig, Declaration}
+use Rattle.th_type.specs.Declarations.{SuperRef, WrittenSig, Declaration}
 use Rattle.th_type.specs.Failures.{place}
 use Rattle.th_type.specs.Rules.{MemberFits, GivesBelow, SigBelow, WellFormed}
 use Rattle.th_type.proofs.Members.{from_map, from_append, in_left, in_right}
@@ -20,15 +19,15 @@ use Rattle.th_hier.specs.declared.item.Sort.{Sort}
 use Rattle.th_hier.specs.declared.item.Sort.TheVariants.{Exception, Declared, Class, Routine, Iterator}
 use Rattle.th_hier.specs.declared.item.Referent.{Referent}
 use Rattle.th_hier.specs.declared.item.Referent.TheVariants as referents
-use Rattle.th_hier.specs.Naming.{Items, Visible, has, with_number, with_numbers, different, item_at, item_in, meaning}
+use Rattle.th_hier.specs.Naming.{Items, Visible, has, with_number, with_numbers, item_at, item_in, meaning}
 use Rattle.th_hier.specs.Resolve.{count, resolved_type, resolved_types}
 use Rattle.th_hier.specs.Heads.{Parts, parts, parts_of, gives_type, given, signal_numbers, formal_types, with_parts, signature_of}
 use Rattle.th_hier.specs.Spots.{item_name}
 use Rattle.th_hier.specs.Numbering.{item_sort, routine_sort, numbered_items}
 use Rattle.th_hier.specs.Texts.{within, visible, whole_meant, sort_meant, super_meant, super_ref, written_at, written_sigs, declared_sort, declared_number, numbered, type_declared, item_declared, items_declared, interfaces_declared, declarations}
 use Rattle.th_hier.proofs.Below.{MeansSeen, seen, type_below, types_below, types_count, more_below, all_more_below}
-use Rattle.th_hier.proofs.Keeping.{Named, firsts_differ, firsts_in, firsts_named}
-use Rattle.th_hier.proofs.Founded.{Comes, FullsDiffer, Founded, FoundAt, found_at, same_by_full, numbered_founded}
+use Rattle.th_hier.proofs.Keeping.{firsts_differ, firsts_in, firsts_named}
+use Rattle.th_hier.proofs.Founded.{Founded, found_at, same_by_full, numbered_founded}
 
 -- a declared type is that of a type's tree, under the number that the items have for it
 pub record FromTree (items : Items) (d : Declaration) : Type 0 where

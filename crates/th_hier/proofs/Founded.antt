@@ -1,5 +1,5 @@
 -- The items by name come from the items of interfaces, and have different numbers.
-use Rattle.std.proofs.Common.{◌≡◌, ℕ, Bool, true, false, nat_eq, ◌&&◌, ◌||◌, List, [], ◌∷◌, ◌++◌, map, length, Option, Some, None, is_some, refl, sym, ap, ◌∙◌, ◌⊎◌, inl, inr, if◌then◌else◌, true≢false, subst}
+use Rattle.std.proofs.Common.{◌≡◌, ℕ, Bool, true, false, nat_eq, ◌&&◌, ◌||◌, List, [], ◌∷◌, ◌++◌, Some, is_some, refl, sym, ap, ◌∙◌, inl, inr, if◌then◌else◌, true≢false, subst}
 use Rattle.std.proofs.lemmas.Bool.{eqb-true}
 use borrow.Author.Tests.{eq-eqb}
 use Rattle.th_tree.specs.Trees.{InterfaceItemSyn, InterfaceSyn}
@@ -10,7 +10,7 @@ use Rattle.th_hier.specs.declared.item.Entry.{Entry}
 use Rattle.th_hier.specs.Naming.{Items, has, with_number, same_item, item_at}
 use Rattle.th_hier.specs.Spots.{item_name}
 use Rattle.th_hier.specs.Numbering.{full_name, full_numbers, with_item, Numbering, numbering, add_item, add_items, add_interface, add_interfaces, numbered_items, item_sort}
-use Rattle.th_tree.specs.Names.{place_of, with_name}
+use Rattle.th_tree.specs.Names.{place_of}
 
 -- an item by name is an item of one of the interfaces
 pub record Comes (fs : List InterfaceSyn) (x : ItemName × Entry) : Type 0 where

@@ -1,16 +1,15 @@
 -- The numbers of full names.
-use Rattle.std.proofs.Common.{◌≡◌, ℕ, zero, suc, ◌+◌, ◌<◌, ◌≤◌, Bool, true, false, ◌||◌, List, [], ◌∷◌, ◌++◌, map, length, slice_get, Option, Some, None, is_some, refl, sym, ap, ◌∙◌, ◌⊎◌, inl, inr, if◌then◌else◌, subst, arith}
+use Rattle.std.proofs.Common.{◌≡◌, ℕ, zero, suc, ◌<◌, Bool, true, false, ◌||◌, List, [], ◌∷◌, ◌++◌, length, slice_get, Option, Some, is_some, refl, sym, ap, ◌∙◌, inl, inr, if◌then◌else◌, subst, arith}
 use Rattle.std.specs.Prelude.{unwrap_or}
 use Rattle.th_tree.specs.Names.{is_there, place_of, with_name}
 use Rattle.th_tree.proofs.Numbers.{found_there, absent_last, last_there}
 use Rattle.th_tree.specs.Trees.{InterfaceItemSyn, InterfaceSyn}
-use Rattle.th_type.specs.Lists.{IsIn}
 use Rattle.th_type.proofs.Members.{from_append}
 use Rattle.th_hier.specs.declared.item.ItemName.{ItemName}
 use Rattle.th_hier.specs.declared.item.Entry.{Entry}
 use Rattle.th_hier.specs.Naming.{Items, has, with_number, item_at}
 use Rattle.th_hier.specs.Spots.{item_name}
-use Rattle.th_hier.specs.Numbering.{name_bytes, full_name, Grown, full_numbers, with_item, Numbering, numbering, add_item, add_items, add_interface, add_interfaces, numbered_items, item_sort, AllNamed}
+use Rattle.th_hier.specs.Numbering.{name_bytes, full_name, Grown, full_numbers, Numbering, numbering, add_item, add_items, add_interface, add_interfaces, numbered_items, item_sort, AllNamed}
 use Rattle.th_hier.proofs.Growing.{grown_self, grown_on}
 
 there_if : (t : List (List ℕ)) (f : List ℕ) (b : Bool) → is_there t f ≡ b → slice_get (if b then t else t ++ f ∷ []) (place_of t f) ≡ Some f

@@ -1,5 +1,5 @@
 -- Tables that grow.
-use Rattle.std.proofs.Common.{◌≡◌, List, [], ℕ, ◌++◌, sym, ◌∙◌, ap, append_assoc, append-nil}
+use Rattle.std.proofs.Common.{List, [], ℕ, ◌++◌, sym, ◌∙◌, ap, append_assoc, append-nil}
 use Rattle.th_hier.specs.Numbering.{Grown}
 
 pub grown_self : (t : List (List ℕ)) → Grown t t

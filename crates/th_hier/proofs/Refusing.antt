@@ -1,14 +1,14 @@
 -- The failure that is named, of the failures of the rules on names and of those of the rule on supertypes.
-use Rattle.std.proofs.Common.{◌≡◌, ℕ, ◌<◌, ◌≤◌, List, Option, Some, None, refl, sym, ap, ◌∙◌, ◌⊎◌, inl, inr, subst, arith}
+use Rattle.std.proofs.Common.{◌≡◌, ◌<◌, ◌≤◌, List, Option, Some, None, refl, ◌⊎◌, inl, inr, subst, arith}
 use Rattle.th_tree.specs.Trees.{InterfaceSyn}
 use Rattle.th_type.specs.declared.place.Failure.{Failure}
-use Rattle.th_type.specs.Failures.{failure, lowest, UpTo, IsLeastOf}
+use Rattle.th_type.specs.Failures.{lowest, UpTo, IsLeastOf}
 use Rattle.th_type.specs.Lists.{IsIn}
 use Rattle.th_type.specs.Declarations.{Declaration}
-use Rattle.th_type.specs.Rules.{SupertypesFail, MethodsFail, FailsFirst, IsNamed, NoneFails}
+use Rattle.th_type.specs.Rules.{SupertypesFail, IsNamed, NoneFails}
 use Rattle.th_hier.specs.Naming.{Items}
 use Rattle.th_hier.specs.Texts.{names_fail, declarations}
-use Rattle.th_hier.specs.Hierarchies.{FailsEarly, FailsLate, NoRuleFails, IsRefusal}
+use Rattle.th_hier.specs.Hierarchies.{NoRuleFails, IsRefusal}
 use Rattle.th_hier.proofs.Exact.{lowest_least}
 
 at_trans : (a b c : Failure) → (a.place.at < b.place.at) ⊎ ((a.place.at ≡ b.place.at) × (a.rule ≤ b.rule)) → (b.place.at < c.place.at) ⊎ ((b.place.at ≡ c.place.at) × (b.rule ≤ c.rule))

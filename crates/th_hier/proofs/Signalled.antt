@@ -1,8 +1,6 @@
 -- The numbers of exceptions, from the first to the last.
-use Rattle.std.proofs.Common.{◌≡◌, ℕ, Bool, true, false, List, [], ◌∷◌, ◌++◌, Option, Some, None, refl, sym, ap, ◌∙◌, append_assoc, append-nil, if◌then◌else◌}
-use Rattle.th_tree.specs.declared.tree.RefTree.{RefTree}
-use Rattle.th_hier.specs.Naming.{Items, Visible, meaning}
-use Rattle.th_hier.specs.Heads.{exception_of, before_numbers, signal_numbers}
+use Rattle.std.proofs.Common.{◌≡◌, ℕ, Bool, true, false, List, [], ◌∷◌, ◌++◌, Option, Some, None, refl, ap, append_assoc, append-nil}
+use Rattle.th_hier.specs.Heads.{before_numbers}
 
 -- the numbers, where all are there
 abbrev pub if_whole : Bool → List ℕ → Option (List ℕ)

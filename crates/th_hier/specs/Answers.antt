@@ -3,7 +3,6 @@ use Rattle.std.specs.Prelude.{◌≡◌, ℕ, List, Result, Ok, Err}
 use Rattle.th_tree.specs.Trees.{InterfaceSyn}
 use Rattle.th_hier.specs.declared.hierarchy.HierError.{HierError}
 use Rattle.th_hier.specs.declared.hierarchy.HierError.TheVariants.{Rule, Memory}
-use Rattle.th_hier.specs.Naming.{Items}
 use Rattle.th_hier.specs.Hierarchies.{TypeHierarchy, hierarchy_of, items_of, NoRuleFails, IsRefusal}
 
 -- the answer for interfaces whose names have numbers in the table: the hierarchy, where no rule fails, or the failure that is named

@@ -1,7 +1,7 @@
 -- The parts of signatures and clauses: what they mean, and the failures in them.
-use Rattle.std.specs.Prelude.{ℕ, ◌+◌, Bool, true, false, nat_eq, List, [], ◌∷◌, ◌++◌, Option, Some, None, is_some}
+use Rattle.std.specs.Prelude.{ℕ, Bool, List, [], ◌∷◌, ◌++◌, Option, Some, None, is_some}
 use Rattle.th_tree.specs.declared.tree.RefTree.{RefTree}
-use Rattle.th_tree.specs.Trees.{TypeSyn, TypeSyns, no_type, more_types, named_type, NamedSyn, FormalSyn, SigSyn, ClauseSyn}
+use Rattle.th_tree.specs.Trees.{TypeSyn, TypeSyns, no_type, more_types, FormalSyn, SigSyn, ClauseSyn}
 use Rattle.th_type.specs.declared.place.Place.{Place}
 use Rattle.th_type.specs.declared.place.Failure.{Failure}
 use Rattle.th_type.specs.Failures.{place, unless}
@@ -13,7 +13,7 @@ use Rattle.th_hier.specs.declared.item.Referent.{Referent}
 use Rattle.th_hier.specs.declared.item.Referent.TheVariants as referents
 use Rattle.th_hier.specs.declared.spot.Spot.{Spot}
 use Rattle.th_hier.specs.Naming.{Items, Visible, meaning}
-use Rattle.th_hier.specs.Resolve.{type_fails, types_fails, resolved_type, resolved_types, count}
+use Rattle.th_hier.specs.Resolve.{type_fails, types_fails, resolved_type, resolved_types}
 use Rattle.th_hier.specs.Spots.{repeats, formal_spots}
 
 -- the types of formals

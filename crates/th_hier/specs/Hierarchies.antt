@@ -1,5 +1,5 @@
 -- The hierarchy of the types that interfaces declare, and when interfaces have none.
-use Rattle.std.specs.Prelude.{◌≡◌, ℕ, ◌⊎◌, List, Option, Some, None}
+use Rattle.std.specs.Prelude.{ℕ, ◌⊎◌, List, Some, None}
 use Rattle.th_tree.specs.Trees.{InterfaceSyn}
 use Rattle.th_type.specs.declared.place.Place.{Place}
 use Rattle.th_type.specs.declared.place.Failure.{Failure}

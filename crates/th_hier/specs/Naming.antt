@@ -1,5 +1,5 @@
 -- What a name means in a scope.
-use Rattle.std.specs.Prelude.{ℕ, Bool, true, false, nat_eq, ◌&&◌, ◌||◌, List, [], ◌∷◌, ◌++◌, Option, Some, None, position, if◌then◌else◌}
+use Rattle.std.specs.Prelude.{ℕ, Bool, false, nat_eq, ◌&&◌, ◌||◌, List, [], ◌∷◌, ◌++◌, Option, Some, None, position, if◌then◌else◌}
 use Rattle.std.specs.List.{list_any}
 use Rattle.th_tree.specs.declared.tree.Ident.{Ident}
 use Rattle.th_tree.specs.declared.tree.RefTree.{RefTree}

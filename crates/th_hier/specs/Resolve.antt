@@ -1,6 +1,5 @@
 -- The type that a tree means, and the failures of the rules on names and on the number of arguments.
-use Rattle.std.specs.Prelude.{ℕ, ◌+◌, Bool, true, false, nat_eq, List, [], ◌∷◌, ◌++◌, Option, Some, None, if◌then◌else◌}
-use Rattle.th_tree.specs.declared.tree.RefTree.{RefTree}
+use Rattle.std.specs.Prelude.{ℕ, ◌+◌, false, nat_eq, List, [], ◌++◌, Option, Some, None, if◌then◌else◌}
 use Rattle.th_tree.specs.Trees.{TypeSyn, int_type, bool_type, text_type, array_type, named_type, TypeSyns, no_type, more_types}
 use Rattle.th_type.specs.declared.place.Place.{Place}
 use Rattle.th_type.specs.declared.place.Failure.{Failure}
@@ -8,7 +7,6 @@ use Rattle.th_type.specs.Failures.{place, unless}
 use Rattle.th_type.specs.Types.{TypeExpr, int_ty, bool_ty, text_ty, array_ty, named_ty, param_ty, TypeExprs, no_ty, more_ty}
 use Rattle.th_hier.specs.declared.item.Sort.{Sort}
 use Rattle.th_hier.specs.declared.item.Sort.TheVariants.{Exception, Declared, Class, Routine, Iterator}
-use Rattle.th_hier.specs.declared.item.Entry.{Entry}
 use Rattle.th_hier.specs.declared.item.Referent.{Referent}
 use Rattle.th_hier.specs.declared.item.Referent.TheVariants as referents
 use Rattle.th_hier.specs.Naming.{Items, Visible, meaning}

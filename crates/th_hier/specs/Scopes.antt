@@ -1,5 +1,5 @@
 -- What a type's tree means in a scope, and what is answered where it means none.
-use Rattle.std.specs.Prelude.{◌≡◌, ℕ, List, [], Option, Some, None, Result, Ok, Err}
+use Rattle.std.specs.Prelude.{◌≡◌, ℕ, List, [], Some, None, Result, Ok, Err}
 use Rattle.th_tree.specs.Trees.{TypeSyn}
 use Rattle.th_type.specs.declared.ty.Ty.{Ty}
 use Rattle.th_type.specs.declared.place.Failure.{Failure}

@@ -1,7 +1,7 @@
 -- Interfaces: the failures of the rules on names in them, and the types that they declare.
 use Rattle.std.specs.Prelude.{ℕ, ◌+◌, Bool, true, false, nat_eq, List, [], ◌∷◌, ◌++◌, map, length, Option, Some, None, if◌then◌else◌}
 use Rattle.th_tree.specs.declared.tree.Ident.{Ident}
-use Rattle.th_tree.specs.Trees.{TypeSyns, named_type, NamedSyn, SigSyn, RoutineHeadSyn, InterfaceClassSyn, TypeDeclSyn, ExceptionSyn, InterfaceItemSyn, exception_item, type_item, class_item, routine_item, InterfaceSyn}
+use Rattle.th_tree.specs.Trees.{NamedSyn, SigSyn, RoutineHeadSyn, InterfaceClassSyn, TypeDeclSyn, InterfaceItemSyn, exception_item, type_item, class_item, routine_item, InterfaceSyn}
 use Rattle.th_type.specs.declared.place.Place.{Place}
 use Rattle.th_type.specs.declared.place.Failure.{Failure}
 use Rattle.th_type.specs.Failures.{place, unless}

@@ -1,4 +1,4 @@
-use Rattle.std.proofs.Common.{◌≡◌, ◌∙◌, ap, sym, Some, List, [], map, drop}
+use Rattle.std.proofs.Common.{◌≡◌, ◌∙◌, ap, sym, List, [], map, drop}
 use Rattle.std.proofs.Math.ListN.{drop_of_length-le}
 use Rattle.th_tree.specs.declared.tree.Formal.{Formal}
 use Rattle.th_tree.specs.View.{formal_of}

@@ -1,6 +1,5 @@
-use Rattle.std.proofs.Common.{List, ◌∙◌, ap, sym, subst, map}
+use Rattle.std.proofs.Common.{ap, sym, subst, map}
 use Rattle.th_tree.specs.DeclView.{interface_of}
-use Rattle.th_type.specs.Declarations.{Declaration}
 use Rattle.th_type.specs.Rules.{WellFormed}
 use Rattle.th_hier.specs.Numbering.{Numbering, AllNamed}
 use Rattle.th_hier.proofs.FullNames.{numbered_named}

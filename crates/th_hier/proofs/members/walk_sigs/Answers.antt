@@ -1,6 +1,6 @@
-use Rattle.std.proofs.Common.{◌∙◌, ◌++◌, List, ap, map, refl}
+use Rattle.std.proofs.Common.{◌∙◌, ◌++◌, ap, map, refl}
 use Rattle.th_tree.specs.DeclView.{sig_of}
-use Rattle.th_type.specs.Declarations.{WrittenSig, written_of}
+use Rattle.th_type.specs.Declarations.{written_of}
 use Rattle.th_hier.specs.Heads.{signature_of}
 use Rattle.th_hier.specs.Texts.{sig_fails, sigs_fail, written_at, written_sigs}
 use Rattle.th_hier.proofs.Failing.{next_fails, next_list}

@@ -1,4 +1,4 @@
-use Rattle.std.proofs.Common.{◌≡◌, ◌∙◌, ap, sym, subst, Option, Some, None, arith}
+use Rattle.std.proofs.Common.{◌∙◌, ap, sym, subst, Option, Some}
 use Rattle.th_tree.specs.View.{type_of}
 use Rattle.th_type.specs.declared.ty.Ty.{Ty}
 use Rattle.th_type.specs.declared.place.Failure.{Failure}
@@ -6,7 +6,7 @@ use Rattle.th_type.specs.Failures.{IsLeastOf}
 use Rattle.th_type.specs.Lists.{IsIn}
 use Rattle.th_hier.specs.Scopes.{failures_in, seen_in}
 use Rattle.th_hier.specs.Views.{ty_opt}
-use Rattle.th_hier.proofs.Exact.{OfType, type_failure, refused, no_failure, means_some, named_by, other_rule}
+use Rattle.th_hier.proofs.Exact.{type_failure, refused, no_failure, means_some, named_by, other_rule}
 use Rattle.th_hier.proofs.scope.resolve_in.Goals as goal
 
 pub returns-then-failure-eq4 : goal.returns-then-failure-eq4

@@ -1,4 +1,4 @@
-use Rattle.std.proofs.Common.{◌≡◌, ◌∙◌, ap, sym, subst, false}
+use Rattle.std.proofs.Common.{◌≡◌, ◌∙◌, ap, sym, false}
 use Rattle.th_hier.specs.Naming.{has, item_at}
 use Rattle.th_hier.specs.Numbering.{full_numbers}
 use Rattle.std.specs.Prelude.{is_some, List, ℕ}
