@@ -65,12 +65,12 @@ pub struct Hierarchy {
 
 impl Model for Hierarchy {
     ghost use Rattle.std.specs.Coded.{codes};
-    ghost use Rattle.th_type.specs.Codes.{declared_code};
+    ghost use Rattle.th_type.specs.Codes.{coded_declared};
     ghost use Rattle.th_hier.specs.Hierarchies.{TypeHierarchy};
 
     ghost Value = { TypeHierarchy };
 
-    ghost coded = { Prim.hlevel (codes, declared_code) };
+    ghost coded = { Prim.hlevel (codes, coded_declared) };
 
     ghost view = { λ a. record { items = a.index; types = a.lattice } };
 }
