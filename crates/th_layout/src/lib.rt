@@ -1,0 +1,8 @@
+//! The object layout: header words, slots, distances, fields and sizes of a program's types and classes.
+#![tactic(auto)]
+
+mod heads;
+mod views;
+
+pub use heads::{Facts, Walk};
+pub use views::Spots;
