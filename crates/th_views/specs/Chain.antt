@@ -51,6 +51,20 @@ abbrev pub filled : List Link → ℕ
 filled [] = 0
 filled (c ∷ rest) = filled rest + (c.wheres + c.fields)
 
+-- where-words of all classes, and fields of all classes
+abbrev pub wheres_in : List Link → ℕ
+wheres_in [] = 0
+wheres_in (c ∷ rest) = wheres_in rest + c.wheres
+
+abbrev pub fields_in : List Link → ℕ
+fields_in [] = 0
+fields_in (c ∷ rest) = fields_in rest + c.fields
+
+-- where-words and fields of the inherited classes
+abbrev pub filled_above : List Link → ℕ
+filled_above [] = 0
+filled_above (c ∷ rest) = filled rest
+
 -- the word above the anchor of a class's own where-word or field
 abbrev pub field_word : List Link → ℕ → ℕ
 field_word [] i = 0
