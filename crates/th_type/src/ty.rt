@@ -1,0 +1,212 @@
+//! Types whose names are resolved. docs/LANGUAGE.md, "Types", states what they mean.
+//!
+//! A list of types is empty, or a type and the rest. A type has a height of at most 600; a list may have any length, so
+//! that lists are walked and dropped by loops.
+ghost use Rattle.std.specs.Prelude.{◌≡◌, ◌-◌, ◌^◌, length, min, slice_get, map, option_map, IfOk};
+ghost use Rattle.th_type.specs.Types.{ty_of, tys_of, list_of, tys_onto, subst_ty, subst_tys, same_ty, same_tys, ParamsBelow, AllParamsBelow};
+
+use std::alloc::{AllocError, Global};
+use std::mem;
+
+/// A type.
+#[derive(Drop)]
+#[cycle(types)]
+pub enum Ty {
+    /// `int`
+    Int,
+    /// `bool`
+    Bool,
+    /// `string`
+    Text,
+    /// `array[T]`: the type of the elements.
+    Array(Box<Ty>),
+    /// A declared type: the number of its full name, and its arguments.
+    Named(u32, TyList),
+    /// A type parameter: its place among the parameters of the item, from 0.
+    Param(u32),
+}
+
+/// Types, in order.
+#[cycle(types)]
+pub enum TyList {
+    NoTy,
+    MoreTy(Box<Ty>, Box<TyList>),
+}
+
+impl Drop for TyList {
+    #[cycle(types)]
+    fn drop(mut self) {
+        loop {
+            match self {
+                TyList::NoTy => return,
+                TyList::MoreTy(_, rest) => self = Box::into_inner(rest),
+            }
+        }
+    }
+}
+
+impl Ty {
+    /// A second type, equal to this one.
+    #[cycle(copies)]
+    pub fn try_clone(&self, alloc: Global) -> Result<Ty, AllocError>
+        ensures { IfOk result (λ t. ty_of t ≡ ty_of self.now) }
+    {
+        match self {
+            Ty::Int => Ok(Ty::Int),
+            Ty::Bool => Ok(Ty::Bool),
+            Ty::Text => Ok(Ty::Text),
+            Ty::Array(of) => {
+                let of = of.try_clone(alloc)?;
+                Ok(Ty::Array(Box::new(alloc, of)?))
+            }
+            Ty::Named(name, args) => {
+                let args = args.try_clone(alloc)?;
+                Ok(Ty::Named(*name, args))
+            }
+            Ty::Param(place) => Ok(Ty::Param(*place)),
+        }
+    }
+
+    /// Whether the two types are equal.
+    #[cycle(same)]
+    pub fn is_same(&self, other: &Ty) -> bool
+        ensures { result ≡ same_ty (ty_of self.now) (ty_of other.now) }
+    {
+        match (self, other) {
+            (Ty::Int, Ty::Int) => true,
+            (Ty::Bool, Ty::Bool) => true,
+            (Ty::Text, Ty::Text) => true,
+            (Ty::Array(a), Ty::Array(b)) => a.is_same(b),
+            (Ty::Named(n, a), Ty::Named(m, b)) => *n == *m && a.is_same(b),
+            (Ty::Param(k), Ty::Param(l)) => *k == *l,
+            _ => false,
+        }
+    }
+}
+
+impl TyList {
+    /// How many types there are.
+    pub fn len(&self) -> usize
+        ensures { result ≡ min (length (list_of (tys_of self.now))) (2 ^ 64 - 1) }
+    {
+        let mut count: usize = 0;
+        let mut rest = self;
+        loop {
+            match rest {
+                TyList::NoTy => return count,
+                TyList::MoreTy(_, next) => {
+                    count = count.saturating_add(1);
+                    rest = next;
+                }
+            }
+        }
+    }
+
+    /// The type at place `k`, from 0; None exactly where `k` is not below the length.
+    pub fn get(&self, k: usize) -> Option<&Ty>
+        ensures { option_map (λ t. ty_of t.now) result ≡ slice_get (list_of (tys_of self.now)) k }
+    {
+        let mut left = k;
+        let mut rest = self;
+        while let TyList::MoreTy(first, next) = rest {
+            if left == 0 {
+                return Some(first);
+            }
+            left -= 1;
+            rest = next;
+        }
+        None
+    }
+
+    /// The types the other way round, before those of `end`.
+    pub fn turned(mut self, end: TyList) -> TyList
+        ensures { tys_of result ≡ tys_onto (tys_of self) (tys_of end) }
+    {
+        let mut done = end;
+        loop {
+            match self {
+                TyList::NoTy => return done,
+                TyList::MoreTy(first, mut others) => {
+                    self = mem::replace(&mut *others, done);
+                    done = TyList::MoreTy(first, others);
+                }
+            }
+        }
+    }
+
+    /// A second list of equal types.
+    #[cycle(copies)]
+    pub fn try_clone(&self, alloc: Global) -> Result<TyList, AllocError>
+        ensures { IfOk result (λ ts. tys_of ts ≡ tys_of self.now) }
+    {
+        let mut done = TyList::NoTy;
+        let mut rest = self;
+        while let TyList::MoreTy(first, next) = rest {
+            let first = first.try_clone(alloc)?;
+            done = TyList::MoreTy(Box::new(alloc, first)?, Box::new(alloc, done)?);
+            rest = next;
+        }
+        Ok(done.turned(TyList::NoTy))
+    }
+
+    /// Whether the two lists have equal types in order.
+    #[cycle(same)]
+    pub fn is_same(&self, other: &TyList) -> bool
+        ensures { result ≡ same_tys (tys_of self.now) (tys_of other.now) }
+    {
+        let mut left = self;
+        let mut right = other;
+        loop {
+            match (left, right) {
+                (TyList::NoTy, TyList::NoTy) => return true,
+                (TyList::MoreTy(a, more), TyList::MoreTy(b, others)) => {
+                    if !a.is_same(b) {
+                        return false;
+                    }
+                    left = more;
+                    right = others;
+                }
+                _ => return false,
+            }
+        }
+    }
+}
+
+/// The type with the k-th argument in place of each parameter `k`.
+#[cycle(substitution)]
+#[tactic(auto, using(crate::proofs::Args::arg_at_map))]
+pub fn substitute(alloc: Global, ty: &Ty, args: &[Ty]) -> Result<Ty, AllocError>
+    requires { ParamsBelow (length args.now) (ty_of ty.now) }
+    ensures { IfOk result (λ t. ty_of t ≡ subst_ty (map ty_of args.now) (ty_of ty.now)) }
+{
+    match ty {
+        Ty::Int => Ok(Ty::Int),
+        Ty::Bool => Ok(Ty::Bool),
+        Ty::Text => Ok(Ty::Text),
+        Ty::Array(of) => {
+            let of = substitute(alloc, of, args)?;
+            Ok(Ty::Array(Box::new(alloc, of)?))
+        }
+        Ty::Named(name, list) => {
+            let list = substitute_list(alloc, list, args)?;
+            Ok(Ty::Named(*name, list))
+        }
+        Ty::Param(place) => args[*place as usize].try_clone(alloc),
+    }
+}
+
+/// The types with the k-th argument in place of each parameter `k`.
+#[cycle(substitution)]
+pub fn substitute_list(alloc: Global, list: &TyList, args: &[Ty]) -> Result<TyList, AllocError>
+    requires { AllParamsBelow (length args.now) (tys_of list.now) }
+    ensures { IfOk result (λ ts. tys_of ts ≡ subst_tys (map ty_of args.now) (tys_of list.now)) }
+{
+    let mut done = TyList::NoTy;
+    let mut rest = list;
+    while let TyList::MoreTy(first, next) = rest {
+        let first = substitute(alloc, first, args)?;
+        done = TyList::MoreTy(Box::new(alloc, first)?, Box::new(alloc, done)?);
+        rest = next;
+    }
+    Ok(done.turned(TyList::NoTy))
+}
