@@ -1,3 +1,5 @@
 pub mod Walked
 pub mod Spotting
 pub mod Limits
+pub mod Depths
+pub mod Tallies

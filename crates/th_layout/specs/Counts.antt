@@ -1,5 +1,5 @@
 -- What is counted against the limits, and the least number of a type or class whose count is above one.
-use Rattle.std.specs.Prelude.{◌≡◌, ℕ, ◌+◌, List, [], ◌∷◌, ◌++◌, length, min, max, nat_lt, cond, Option, Some, None}
+use Rattle.std.specs.Prelude.{◌≡◌, ℕ, ◌+◌, List, [], ◌∷◌, ◌++◌, length, get_or, min, max, nat_lt, cond, Option, Some, None}
 use Rattle.th_layout.specs.declared.counts.Tally.{Tally}
 use Rattle.th_views.specs.declared.ClassRow.{ClassRow}
 use Rattle.th_views.specs.Chain.{Link, hidden, filled}
@@ -55,3 +55,8 @@ pub record IsTally (t : Tally) (chain : List Link) : Type 0 where
   pub down : t.down ≡ min 251 (most_down chain)
   pub hidden : t.hidden ≡ min 251 (length (hidden chain))
   pub filled : t.filled ≡ min 401 (filled chain)
+
+-- what a list has at the place that stands first in another
+abbrev pub at_first : List ℕ → List ℕ → ℕ
+at_first [] done = 0
+at_first (s ∷ ss) done = get_or done s 0

@@ -1,8 +1,10 @@
 //! The object layout: header words, slots, distances, fields and sizes of a program's types and classes.
 #![tactic(auto)]
 
+mod counts;
 mod heads;
 mod views;
 
+pub use counts::Tally;
 pub use heads::{Facts, Walk};
 pub use views::Spots;

@@ -10,7 +10,7 @@ ghost use Rattle.th_views.specs.Rows.{Ordered, Program};
 ghost use Rattle.th_views.specs.Terms.{Term, Terms, Full, sub, result_of};
 ghost use Rattle.th_views.specs.declared.TypeRow.{TypeRow};
 
-use th_tree::NumberList;
+use th_type::NumberList;
 
 /// Which declared supertype of a type comes next: the first, the second (with whether the first is
 /// topped), or one after these.
