@@ -26,12 +26,12 @@ first_before rows o n s r h e =
   let q : get_or ss 0 0 ≡ s = first_get ss s e in
   let k : get_or ss 0 0 < n = super_at rows o n 0 ss (sym (supers_at rows n r h)) (first_within ss s e) in omega arith
 
-own_at : (rows : List TypeRow) (n : ℕ) (r : TypeRow) → n < length rows → own_in (slice_get rows n) ≡ (get_or rows n r).own
+pub own_at : (rows : List TypeRow) (n : ℕ) (r : TypeRow) → n < length rows → own_in (slice_get rows n) ≡ (get_or rows n r).own
 own_at [] n r h = absurd (omega arith)
 own_at (x ∷ xs) zero r h = refl
 own_at (x ∷ xs) (suc n) r h = own_at xs n r (omega arith)
 
-plain_node : (rows : List TypeRow) (o : Ordered rows) (n : ℕ) (r : TypeRow) → n < length rows
+pub plain_node : (rows : List TypeRow) (o : Ordered rows) (n : ℕ) (r : TypeRow) → n < length rows
   → plain_depth (tree_of rows n) ≡ plain_base (trees_by (tree_of rows) (get_or rows n r).supers) + length (get_or rows n r).own
 plain_node rows o n r h = ap plain_depth (tree_at rows o n)
   ∙ ap (λ ss. plain_base (trees_by (tree_of rows) ss) + length (own_in (slice_get rows n))) (supers_at rows n r h)

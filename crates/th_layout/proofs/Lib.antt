@@ -3,3 +3,5 @@ pub mod Spotting
 pub mod Limits
 pub mod Depths
 pub mod Tallies
+pub mod Mapped
+pub mod Sited

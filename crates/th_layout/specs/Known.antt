@@ -1,12 +1,13 @@
 -- What is known of each type, one after another: its headers, its views and its sum of header words.
-use Rattle.std.specs.Prelude.{get_or, min, ◌≡◌, ℕ, ◌<◌, ◌≤◌, List, length, Option, Some, None, slice_get}
+use Rattle.std.specs.Prelude.{get_or, min, ◌≡◌, ℕ, ◌<◌, ◌≤◌, List, [], ◌∷◌, length, Option, Some, None, slice_get}
 use Rattle.th_views.specs.declared.TypeRow.{TypeRow}
 use Rattle.th_layout.specs.declared.heads.Facts.{Facts}
 use Rattle.th_layout.specs.declared.views.Spots.{Spots}
 use Rattle.th_views.specs.Listed.{spots}
-use Rattle.th_views.specs.Tree.{Tree, is_up, topped, span}
+use Rattle.th_views.specs.Tree.{Tree, is_up, topped, span, depth}
 use Rattle.th_views.specs.Rows.{Program, tree_of, chain_of}
 use Rattle.th_views.specs.Chain.{Link}
+use Rattle.th_views.specs.declared.Spot.{Spot}
 use Rattle.th_views.specs.declared.ClassRow.{ClassRow}
 use Rattle.th_layout.specs.declared.counts.Tally.{Tally}
 use Rattle.th_layout.specs.Counts.{IsTally}
@@ -71,3 +72,16 @@ Typed p = (k : ℕ) → TypedAt (length p.types) (slice_get p.classes k)
 -- no type has more header words than the greatest limit
 abbrev pub Few : List TypeRow → Type 0
 Few rows = (k : ℕ) → span (tree_of rows k) ≤ 64
+
+-- no type has more slots downward at its own view than the limit
+abbrev pub Shallow : List TypeRow → Type 0
+Shallow rows = (k : ℕ) → plain_depth (tree_of rows k) ≤ 250
+
+-- the slots downward of the first types
+abbrev pub Placed : List TypeRow → List ℕ → Type 0
+Placed rows done = (k : ℕ) → k < length done → get_or done k 0 ≡ depth (tree_of rows k)
+
+-- each type of the list stands below a place
+abbrev pub Within : ℕ → List Spot → Type 0
+Within n [] = Unit {0}
+Within n (s ∷ ss) = (s.name < n) × Within n ss

@@ -1,3 +1,4 @@
 pub mod Walks
+pub mod Maps
 pub mod Counts
 pub mod Known

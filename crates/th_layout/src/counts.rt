@@ -35,7 +35,7 @@ fn length_up_to(limit: u32, len: usize) -> u32
 }
 
 /// What is known of the first declared supertype; 0 where there is none.
-fn first_known(supers: &[u32], done: &[u32]) -> u32
+pub fn first_known(supers: &[u32], done: &[u32]) -> u32
     requires { (s : ℕ) → slice_get supers.now 0 ≡ Some s → s < length done.now }
     ensures { result ≡ at_first supers.now done.now }
 {

@@ -3,6 +3,8 @@
 
 mod counts;
 mod heads;
+mod maps;
+mod slots;
 mod views;
 
 pub use counts::Tally;
