@@ -5,3 +5,5 @@ pub mod Depths
 pub mod Tallies
 pub mod Mapped
 pub mod Sited
+pub mod Pushed
+pub mod Forming

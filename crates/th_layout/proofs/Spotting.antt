@@ -18,7 +18,7 @@ use Rattle.th_views.proofs.Views.{seen_below, span_some}
 use Rattle.th_views.proofs.Lists.{shown, Shown}
 use Rattle.th_layout.proofs.Walked.{lower_at, facts_at, step_on, walk_few, tree_at, drop_past}
 
-list_at : (done : List Spots) (k : ℕ) (d : Spots) (x : Tree) → k < length done → SpotsAt (slice_get done k) x → (get_or done k d).list.items ≡ spots x
+pub list_at : (done : List Spots) (k : ℕ) (d : Spots) (x : Tree) → k < length done → SpotsAt (slice_get done k) x → (get_or done k d).list.items ≡ spots x
 list_at [] k d x h g = absurd g
 list_at (y ∷ ys) zero d x h g = g
 list_at (y ∷ ys) (suc k) d x h g = list_at ys k d x (omega arith) g

@@ -1,12 +1,18 @@
 -- What is known of each type, one after another: its headers, its views and its sum of header words.
-use Rattle.std.specs.Prelude.{get_or, min, ◌≡◌, ℕ, ◌<◌, ◌≤◌, List, [], ◌∷◌, length, Option, Some, None, slice_get}
+use Rattle.std.specs.Prelude.{get_or, min, ◌≡◌, ℕ, ◌+◌, ◌<◌, ◌≤◌, List, [], ◌∷◌, length, nat_eq, cond, Option, Some, None, slice_get, option_map}
+use Rattle.std.specs.HashMap.{get}
+use Rattle.th_layout.specs.declared.maps.Casts.{Casts}
+use Rattle.th_layout.specs.declared.maps.Offsets.{Offsets}
+use Rattle.th_layout.specs.declared.objects.Object.{Object}
+use Rattle.th_views.specs.Lookups.{offset, method_place}
+use Rattle.th_views.specs.Objects.{object_spots}
 use Rattle.th_views.specs.declared.TypeRow.{TypeRow}
 use Rattle.th_layout.specs.declared.heads.Facts.{Facts}
 use Rattle.th_layout.specs.declared.views.Spots.{Spots}
-use Rattle.th_views.specs.Listed.{spots}
+use Rattle.th_views.specs.Listed.{spots, first_of}
 use Rattle.th_views.specs.Tree.{Tree, is_up, topped, span, depth}
 use Rattle.th_views.specs.Rows.{Program, tree_of, chain_of}
-use Rattle.th_views.specs.Chain.{Link}
+use Rattle.th_views.specs.Chain.{Link, start, words, hidden, filled, filled_above, wheres_in, fields_in}
 use Rattle.th_views.specs.declared.Spot.{Spot}
 use Rattle.th_views.specs.declared.ClassRow.{ClassRow}
 use Rattle.th_layout.specs.declared.counts.Tally.{Tally}
@@ -85,3 +91,59 @@ Placed rows done = (k : ℕ) → k < length done → get_or done k 0 ≡ depth (
 abbrev pub Within : ℕ → List Spot → Type 0
 Within n [] = Unit {0}
 Within n (s ∷ ss) = (s.name < n) × Within n ss
+
+abbrev pub CastAt : Option Casts → Option Spots → Type 0
+CastAt None o = ⊥
+CastAt (Some c) None = ⊥
+CastAt (Some c) (Some s) = (q : ℕ) → get nat_eq c.words q ≡ first_of q s.list.items
+
+-- the words of the first views of the first types
+abbrev pub Cast : List Spots → List Casts → Type 0
+Cast spots done = (k : ℕ) → k < length done → CastAt (slice_get done k) (slice_get spots k)
+
+abbrev pub HomedAt : Option Offsets → Tree → Type 0
+HomedAt None x = ⊥
+HomedAt (Some o) x = (q : ℕ) → get nat_eq o.bytes q ≡ option_map offset (method_place x q)
+
+-- the offsets of the methods of the first types
+abbrev pub Homed : List TypeRow → List Offsets → Type 0
+Homed rows done = (k : ℕ) → k < length done → HomedAt (slice_get done k) (tree_of rows k)
+
+-- no class has more header words, where-words and fields than the greatest limits
+abbrev pub FewWords : Program → Type 0
+FewWords p = (c : ℕ) → words (chain_of p c) ≤ 64
+
+abbrev pub FewFields : Program → Type 0
+FewFields p = (c : ℕ) → filled (chain_of p c) ≤ 400
+
+-- the words of a class's objects, from those of the class that it inherits
+abbrev pub object_on : ClassRow → Object → ℕ → Object
+object_on c up n = record { start = cond c.extends up.start up.words; words = cond c.extends up.start up.words + n; wheres = up.wheres + c.wheres; fields = up.fields + c.fields; below = up.wheres + up.fields }
+
+pub record IsObject (o : Object) (chain : List Link) : Type 0 where
+  pub start : o.start ≡ start chain
+  pub words : o.words ≡ words chain
+  pub wheres : o.wheres ≡ wheres_in chain
+  pub fields : o.fields ≡ fields_in chain
+  pub below : o.below ≡ filled_above chain
+  pub filled : o.wheres + o.fields ≡ filled chain
+
+abbrev pub ObjectAt : Option Object → List Link → Type 0
+ObjectAt None chain = ⊥
+ObjectAt (Some o) chain = IsObject o chain
+
+-- the words of the objects of the first classes
+abbrev pub Formed : Program → List Object → Type 0
+Formed p done = (k : ℕ) → k < length done → ObjectAt (slice_get done k) (chain_of p k)
+
+-- the hidden methods of the first classes
+abbrev pub HiddenNames : Program → List (List ℕ) → Type 0
+HiddenNames p done = (k : ℕ) → k < length done → slice_get done k ≡ Some (hidden (chain_of p k))
+
+abbrev pub ViewedAt : Option Spots → List Link → Type 0
+ViewedAt None chain = ⊥
+ViewedAt (Some s) chain = s.list.items ≡ object_spots chain
+
+-- the types that the objects of the first classes see
+abbrev pub Viewed : Program → List Spots → Type 0
+Viewed p done = (k : ℕ) → k < length done → ViewedAt (slice_get done k) (chain_of p k)

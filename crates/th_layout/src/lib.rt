@@ -4,9 +4,11 @@
 mod counts;
 mod heads;
 mod maps;
+mod objects;
 mod slots;
 mod views;
 
 pub use counts::Tally;
+pub use objects::Object;
 pub use heads::{Facts, Walk};
 pub use views::Spots;

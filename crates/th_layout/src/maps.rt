@@ -1,10 +1,12 @@
 //! Look-ups: from numbers to places, from types to words, from methods to offsets. The first entry counts.
 ghost use Rattle.std.specs.HashMap.{get};
 ghost use Rattle.std.specs.Prelude.{◌≡◌, ◌≤◌, ◌+◌, ◌^◌, ◌<◌, ℕ, length, IfOk, OnOk, nat_eq};
+ghost use Rattle.th_layout.specs.Known.{Cast};
 ghost use Rattle.th_layout.specs.Maps.{or_else, offset_from, placed};
 ghost use Rattle.th_views.specs.Listed.{first_of};
 ghost use Rattle.th_views.specs.Lookups.{index_of, offset};
 
+use crate::views::Spots;
 use std::alloc::{AllocError, Global};
 use std::collections::HashMap;
 use th_views::Spot;
@@ -58,4 +60,28 @@ pub fn add_run(into: &mut HashMap<u32, i32>, methods: &[u32], upward: bool, from
         k += 1;
     }
     Ok(())
+}
+
+/// For each type seen, the word of its first view.
+#[derive(Drop)]
+pub struct Casts {
+    pub words: HashMap<u32, u32>,
+}
+
+/// For each method, the offset of its slot in bytes.
+#[derive(Drop)]
+pub struct Offsets {
+    pub bytes: HashMap<u32, i32>,
+}
+
+/// The words of the first views, for all types.
+pub fn all_casts(alloc: Global, spots: &[Spots]) -> Result<Vec<Casts>, AllocError>
+    ensures { IfOk result (λ all. (length all.items ≡ length spots.now) × Cast spots.now all.items) }
+{
+    let mut all = Vec::new(alloc);
+    for number in 0..spots.len() {
+        let words = words_by_type(alloc, &spots[number].list)?;
+        all.push(Casts { words })?;
+    }
+    Ok(all)
 }

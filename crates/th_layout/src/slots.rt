@@ -1,16 +1,18 @@
 //! The slots of types' methods, and the numbers of slots downward.
 ghost use Rattle.std.specs.HashMap.{get};
 ghost use Rattle.std.specs.Prelude.{◌≡◌, ◌≤◌, ◌+◌, ◌<◌, ℕ, length, IfOk, OnOk, nat_eq, option_map};
-ghost use Rattle.th_layout.specs.Known.{Done, Placed, Shallow, Spotted, Within};
+ghost use Rattle.th_layout.specs.Known.{Done, Homed, Placed, Shallow, Spotted, Within};
 ghost use Rattle.th_layout.specs.Maps.{or_else, offset_in};
 ghost use Rattle.th_views.specs.Listed.{spots};
 ghost use Rattle.th_views.specs.Lookups.{offset, own_place};
+ghost use Rattle.th_views.specs.Objects.{raised};
 ghost use Rattle.th_views.specs.Rows.{tree_of, Ordered};
 ghost use Rattle.th_views.specs.Tree.{depth};
 
 use crate::counts::first_known;
 use crate::heads::Facts;
-use crate::maps::add_run;
+use crate::maps::{add_run, Offsets};
+use crate::views::Spots;
 use std::alloc::{AllocError, Global};
 use std::collections::HashMap;
 use th_views::{Spot, TypeRow};
@@ -75,4 +77,35 @@ fn offsets_of(alloc: Global, rows: &[TypeRow], seen: &[Spot], facts: &[Facts], d
         add_own(&mut map, rows, spot.name as usize, facts, depths)?;
     }
     Ok(map)
+}
+
+/// The offsets of the methods of all types.
+pub fn all_offsets(alloc: Global, rows: &[TypeRow], spots: &[Spots], facts: &[Facts], depths: &[u32]) -> Result<Vec<Offsets>, AllocError>
+    requires ordered { Ordered rows.now }
+    requires shallow { Shallow rows.now }
+    requires known { (length facts.now ≡ length rows.now) × Done rows.now facts.now }
+    requires depths { (length depths.now ≡ length rows.now) × Placed rows.now depths.now }
+    requires spots { (length spots.now ≡ length rows.now) × Spotted rows.now spots.now }
+    ensures { IfOk result (λ all. (length all.items ≡ length rows.now) × Homed rows.now all.items) }
+{
+    let mut all = Vec::new(alloc);
+    for number in 0..rows.len() {
+        let bytes = offsets_of(alloc, rows, &spots[number].list, facts, depths)?;
+        all.push(Offsets { bytes })?;
+    }
+    Ok(all)
+}
+
+/// The greatest number of own methods of an upward type.
+pub fn raised_of(rows: &[TypeRow]) -> u32
+    requires { Shallow rows.now }
+    ensures { result ≡ raised rows.now }
+{
+    let mut most = 0;
+    for row in rows {
+        if row.marked && row.supers.as_slice().is_empty() {
+            most = most.max(row.own.len() as u32);
+        }
+    }
+    most
 }

@@ -15,7 +15,8 @@ pub struct Spots {
     pub list: Vec<Spot>,
 }
 
-fn lower_onto(into: &mut Vec<Spot>, from: &[Spot], low: u32) -> Result<(), AllocError>
+/// Adds views, so many words lower.
+pub fn lower_onto(into: &mut Vec<Spot>, from: &[Spot], low: u32) -> Result<(), AllocError>
     requires { (k : ℕ) → low + (get_or from.now k (record { name = 0; word = 0 })).word < 2 ^ 32 }
     ensures { OnOk result (into.new.items ≡ into.old.items ++ lowered low from.now) }
 {
