@@ -9,7 +9,7 @@ use Rattle.th_views.specs.Rows.{supers_in, marked_in, own_in, tree_of, Ordered}
 use Rattle.th_layout.specs.Known.{Deep, Reaching}
 use Rattle.th_layout.specs.Counts.{at_first}
 use Rattle.th_layout.proofs.Walked.{lower_at, tree_at, drop_past, supers_at}
-use Rattle.th_layout.proofs.Limits.{super_at}
+use Rattle.th_layout.proofs.Summing.{super_at}
 
 first_within : (ss : List ℕ) (s : ℕ) → slice_get ss 0 ≡ Some s → 0 < length ss
 first_within [] s e = absurd (cc)

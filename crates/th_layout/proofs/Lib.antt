@@ -1,9 +1,10 @@
 pub mod Walked
 pub mod Spotting
-pub mod Limits
+pub mod Summing
 pub mod Depths
 pub mod Tallies
 pub mod Mapped
 pub mod Sited
 pub mod Pushed
 pub mod Forming
+pub mod Judged

@@ -2,3 +2,4 @@ pub mod Walks
 pub mod Maps
 pub mod Counts
 pub mod Known
+pub mod Refusals

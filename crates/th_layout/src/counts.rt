@@ -162,7 +162,7 @@ pub fn all_tallies(alloc: Global, types: &[TypeRow], classes: &[ClassRow], sums:
 }
 
 /// The lesser of two numbers, where there are two.
-fn lesser_of(a: Option<u32>, b: Option<u32>) -> Option<u32>
+pub fn lesser_of(a: Option<u32>, b: Option<u32>) -> Option<u32>
     ensures { result ≡ lesser a b }
 {
     match (a, b) {

@@ -3,12 +3,14 @@
 
 mod counts;
 mod heads;
+mod limits;
 mod maps;
 mod objects;
 mod slots;
 mod views;
 
 pub use counts::Tally;
+pub use limits::LayoutError;
 pub use objects::Object;
 pub use heads::{Facts, Walk};
 pub use views::Spots;

@@ -1,5 +1,5 @@
 use Rattle.std.proofs.Common.{◌<◌, length, get_or, arith}
-use Rattle.th_layout.proofs.Limits.{super_at}
+use Rattle.th_layout.proofs.Summing.{super_at}
 use Rattle.th_layout.proofs.Depths.{greatest_step, greatest_end}
 use Rattle.th_layout.proofs.counts.greatest_of.Goals as goal
 

@@ -1,6 +1,6 @@
 use Rattle.std.proofs.Common.{◌<◌, length, get_or, arith, ap, ◌∙◌, sym}
 use Rattle.std.specs.Prelude.{nat_eq}
-use Rattle.th_layout.proofs.Limits.{super_at, sum_step, sum_end}
+use Rattle.th_layout.proofs.Summing.{super_at, sum_step, sum_end}
 use Rattle.th_layout.proofs.heads.sum_of.Goals as goal
 
 pub bounds-done-s : goal.bounds-done-s
