@@ -39,7 +39,7 @@ object_link l c rest up s a w f t e =
   sum_at : (y z s q : ℕ) → y ≡ z → s ≡ q → y + s ≡ z + q
   sum_at y z s q a b = omega arith
 
-chain_by : (p : Program) (o : Inherited p.classes) (n : ℕ) (c r : ClassRow) → n < length p.classes → c ≡ get_or p.classes n r → chain_of p n ≡ link p.types c ∷ inherited (chain_of p) c.inherits
+pub chain_by : (p : Program) (o : Inherited p.classes) (n : ℕ) (c r : ClassRow) → n < length p.classes → c ≡ get_or p.classes n r → chain_of p n ≡ link p.types c ∷ inherited (chain_of p) c.inherits
 chain_by p o n c r h q = chain_at p o n r h ∙ ap (λ x. link p.types x ∷ inherited (chain_of p) x.inherits) (sym q)
 
 pub object_made : (p : Program) (o : Inherited p.classes) (n : ℕ) (c r : ClassRow) (up z : Object) (s : ℕ) → n < length p.classes → c ≡ get_or p.classes n r

@@ -8,3 +8,4 @@ pub mod Sited
 pub mod Pushed
 pub mod Forming
 pub mod Judged
+pub mod Seeing

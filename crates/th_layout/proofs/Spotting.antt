@@ -23,13 +23,13 @@ list_at [] k d x h g = absurd g
 list_at (y ∷ ys) zero d x h g = g
 list_at (y ∷ ys) (suc k) d x h g = list_at ys k d x (omega arith) g
 
-spot_at : (l : List Spot) (k b : ℕ) → 1 ≤ b → ((n w : ℕ) → HasSpot l n w → w < b) → (get_or l k (record { name = 0; word = 0 })).word < b
+pub spot_at : (l : List Spot) (k b : ℕ) → 1 ≤ b → ((n w : ℕ) → HasSpot l n w → w < b) → (get_or l k (record { name = 0; word = 0 })).word < b
 spot_at [] zero b a h = omega arith
 spot_at [] (suc k) b a h = omega arith
 spot_at (s ∷ ss) zero b a h = h s.name s.word (inl (refl, refl))
 spot_at (s ∷ ss) (suc k) b a h = spot_at ss k b a (λ n w q. h n w (inr q))
 
-spot_below : (x : Tree) (n w : ℕ) → HasSpot (spots x) n w → w < span x
+pub spot_below : (x : Tree) (n w : ℕ) → HasSpot (spots x) n w → w < span x
 spot_below x n w h = let k : Shown x n w = shown x n w h in seen_below x k.tree w k.seen
 
 low_at : (m : Bool) (b : ℕ) → at m b ≤ b

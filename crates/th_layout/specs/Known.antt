@@ -4,7 +4,7 @@ use Rattle.std.specs.HashMap.{get}
 use Rattle.th_layout.specs.declared.maps.Casts.{Casts}
 use Rattle.th_layout.specs.declared.maps.Offsets.{Offsets}
 use Rattle.th_layout.specs.declared.objects.Object.{Object}
-use Rattle.th_views.specs.Lookups.{offset, method_place}
+use Rattle.th_views.specs.Lookups.{offset, method_place, hidden_place}
 use Rattle.th_views.specs.Objects.{object_spots}
 use Rattle.th_views.specs.declared.TypeRow.{TypeRow}
 use Rattle.th_layout.specs.declared.heads.Facts.{Facts}
@@ -147,3 +147,11 @@ ViewedAt (Some s) chain = s.list.items ≡ object_spots chain
 -- the types that the objects of the first classes see
 abbrev pub Viewed : Program → List Spots → Type 0
 Viewed p done = (k : ℕ) → k < length done → ViewedAt (slice_get done k) (chain_of p k)
+
+abbrev pub HiddenAtsOf : Option Offsets → Program → ℕ → Type 0
+HiddenAtsOf None p c = ⊥
+HiddenAtsOf (Some o) p c = (q : ℕ) → get nat_eq o.bytes q ≡ option_map offset (hidden_place p c q)
+
+-- the offsets of the hidden methods of the first classes
+abbrev pub HiddenAts : Program → List Offsets → Type 0
+HiddenAts p done = (k : ℕ) → k < length done → HiddenAtsOf (slice_get done k) p k

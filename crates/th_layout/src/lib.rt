@@ -6,6 +6,7 @@ mod heads;
 mod limits;
 mod maps;
 mod objects;
+mod seen;
 mod slots;
 mod views;
 
