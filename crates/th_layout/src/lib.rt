@@ -3,14 +3,17 @@
 
 mod counts;
 mod heads;
+mod layout;
 mod limits;
 mod maps;
 mod objects;
 mod seen;
+mod sides;
 mod slots;
 mod views;
 
 pub use counts::Tally;
+pub use layout::Layout;
 pub use limits::LayoutError;
 pub use objects::Object;
 pub use heads::{Facts, Walk};
