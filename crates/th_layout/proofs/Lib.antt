@@ -9,3 +9,4 @@ pub mod Pushed
 pub mod Forming
 pub mod Judged
 pub mod Seeing
+pub mod Found

@@ -6,7 +6,7 @@ use Rattle.th_layout.specs.declared.sides.TypeSide.{TypeSide}
 use Rattle.th_layout.specs.declared.sides.ClassSide.{ClassSide}
 use Rattle.th_layout.specs.declared.sides.Places.{Places}
 use Rattle.th_layout.specs.declared.sides.Sums.{Sums}
-use Rattle.th_layout.specs.Known.{Done, Summed, Spotted, Tallied, Homed, Formed, HiddenAts, Viewed}
+use Rattle.th_layout.specs.Known.{Done, Summed, Spotted, Tallied, Homed, Formed, HiddenAts, Viewed, Few, FewWords, FewFields}
 use Rattle.th_views.specs.declared.TypeRow.{TypeRow}
 use Rattle.th_views.specs.Tree.{Tree}
 use Rattle.th_views.specs.Listed.{spots, first_of}
@@ -39,8 +39,11 @@ pub record IsTypeSide (rows : List TypeRow) (a : TypeSide) : Type 0 where
   pub spots : (length a.spots.items ≡ length rows) × Spotted rows a.spots.items
   pub casts : (length a.casts.items ≡ length rows) × Casted rows a.casts.items
   pub offsets : (length a.offsets.items ≡ length rows) × Homed rows a.offsets.items
+  pub few : Few rows
 
 pub record IsClassSide (p : Program) (a : ClassSide) : Type 0 where
   pub objects : (length a.objects.items ≡ length p.classes) × Formed p a.objects.items
   pub hidden : (length a.hidden.items ≡ length p.classes) × HiddenAts p a.hidden.items
   pub seen : (length a.seen.items ≡ length p.classes) × Viewed p a.seen.items
+  pub few_words : FewWords p
+  pub few_fields : FewFields p
