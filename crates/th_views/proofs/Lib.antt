@@ -6,6 +6,7 @@ pub mod Homes
 pub mod Summed
 pub mod Lawful
 pub mod Objects
+pub mod Tabled
 pub mod Examples
 pub mod Termed
 pub mod Bridged

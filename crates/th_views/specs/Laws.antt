@@ -1,5 +1,5 @@
 -- The laws of the layout. All that lies above it rests on these alone.
-use Rattle.std.specs.Prelude.{◌≡◌, ℕ, ◌+◌, ◌<◌, ◌≤◌, List, [], ◌∷◌, length, Bool, true, Option, Some, None, slice_get}
+use Rattle.std.specs.Prelude.{◌≡◌, ℕ, ℤ, ◌⊎◌, ◌+◌, ◌<◌, ◌≤◌, List, [], ◌∷◌, length, Bool, true, Option, Some, None, slice_get}
 use Rattle.th_views.specs.declared.TypeRow.{TypeRow}
 use Rattle.th_views.specs.declared.ClassRow.{ClassRow}
 use Rattle.th_views.specs.Tree.{own_of, span, depth, Place, place}
@@ -7,6 +7,9 @@ use Rattle.th_views.specs.Listed.{spots, first_of, HasSpot}
 use Rattle.th_views.specs.Chain.{Link, among, lookup, start, words, filled, FieldAt}
 use Rattle.th_views.specs.Home.{offers}
 use Rattle.th_views.specs.Objects.{object_spots, OwnSlot, HiddenAt}
+use Rattle.th_views.specs.Contents.{slot_at, body_of}
+use Rattle.th_views.specs.Lookups.{offset, to_type}
+use Rattle.th_views.specs.declared.Slot.{Slot}
 use Rattle.th_views.specs.Rows.{Program, tree_of, chain_of, inherits_in}
 use Rattle.th_views.specs.Sums.{sum, plain_depth, sum_words}
 
@@ -36,6 +39,13 @@ Served (c ∷ rest) = ((m : ℕ) → offers c.of m ≡ true → (b : ℕ) × (lo
 -- the first half of V3: the walk finds a body for each slot of a type seen
 abbrev pub V3 : Program → Type 0
 V3 p = (c w : ℕ) (o : Place) (m t : ℕ) → Served (chain_of p c) → OwnSlot p c w o m t → (b : ℕ) × (lookup (chain_of p c) m ≡ Some b)
+
+-- V3 whole: the slot of a type's own method, where the type is seen, holds the body that the walk finds, by a bridge where the body's result is lowered; a hidden method's slot holds the body; and there are no other slots
+pub record V3Whole (p : Program) : Type 0 where
+  pub own : (c w : ℕ) (o : Place) (m t : ℕ) → OwnSlot p c w o m t → slot_at p c w (offset o) ≡ Some (record { offset = offset o; method = m; body = body_of p c m; bridge = to_type p c m t })
+  pub hidden : (c w : ℕ) (o : Place) (m : ℕ) → HiddenAt p c w o m → slot_at p c w (offset o) ≡ Some (record { offset = offset o; method = m; body = body_of p c m; bridge = 0 })
+  pub only : (c w : ℕ) (z : ℤ) (s : Slot) → slot_at p c w z ≡ Some s
+    → ((o : Place) × (m : ℕ) × (t : ℕ) × OwnSlot p c w o m t × (z ≡ offset o)) ⊎ ((o : Place) × (m : ℕ) × HiddenAt p c w o m × (z ≡ offset o))
 
 -- V5: a place in a table has one method of one type, or one hidden method; fields and where-words lie above the anchor, within the object, and don't overlap; a view lies within the headers
 pub record V5 (p : Program) : Type 0 where

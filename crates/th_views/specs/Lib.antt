@@ -7,6 +7,7 @@ pub mod Sums
 pub mod Home
 pub mod Objects
 pub mod Lookups
+pub mod Contents
 pub mod Laws
 pub mod Terms
 pub mod Bridges

@@ -1,11 +1,12 @@
 -- What is asked of a layout, by the numbers of types, classes and methods. Distances and offsets are in bytes.
-use Rattle.std.specs.Prelude.{ℕ, ℤ, pos, negsuc, ◌+◌, ◌*◌, List, [], ◌∷◌, slice_get, nat_eq, nat_lt, cond, Option, Some, None, option_map, option_and_then}
+use Rattle.std.specs.Prelude.{ℕ, ℤ, pos, negsuc, ◌+◌, ◌*◌, List, [], ◌∷◌, Bool, true, false, unwrap_or, slice_get, nat_eq, nat_lt, cond, Option, Some, None, option_map, option_and_then}
 use Rattle.th_views.specs.declared.TypeRow.{TypeRow}
+use Rattle.th_views.specs.declared.Gives.{Gives}
 use Rattle.th_views.specs.declared.ClassRow.{ClassRow}
 use Rattle.th_views.specs.Tree.{Tree, own_of, span, Place, Below, Above, place}
 use Rattle.th_views.specs.Listed.{spots, first_of}
-use Rattle.th_views.specs.Home.{home}
-use Rattle.th_views.specs.Chain.{start, words, hidden, field_word, size}
+use Rattle.th_views.specs.Home.{home, offers}
+use Rattle.th_views.specs.Chain.{Link, among, lookup, start, words, hidden, field_word, size}
 use Rattle.th_views.specs.Sums.{sum, sum_words}
 use Rattle.th_views.specs.Objects.{raised}
 use Rattle.th_views.specs.Rows.{Program, tree_of, chain_of}
@@ -89,3 +90,53 @@ field_of p n i = option_and_then (λ c. field_at p c i) (class_place p n)
 -- the bytes of a class's objects
 abbrev pub size_of : Program → ℕ → Option ℕ
 size_of p n = option_map (λ c. size (chain_of p c)) (class_place p n)
+
+-- the type that a method gives, if it is a declared type
+abbrev pub given_in : List Gives → ℕ → Option ℕ
+given_in [] m = None
+given_in (g ∷ gs) m = cond (nat_eq g.method m) (Some g.of) (given_in gs m)
+
+abbrev pub type_gives : Option TypeRow → List Gives
+type_gives None = []
+type_gives (Some r) = r.gives
+
+abbrev pub class_gives : Option ClassRow → List Gives
+class_gives None = []
+class_gives (Some r) = r.gives
+
+abbrev pub class_arrives : Option ClassRow → List Gives
+class_arrives None = []
+class_arrives (Some r) = r.arrives
+
+-- the distance in bytes from one type down to another, 0 where it does not reach it
+abbrev pub lowering : Program → ℕ → ℕ → ℕ
+lowering p a b = unwrap_or (cast_at p a b) 0
+
+-- the distance from a first result to a second, 0 where one of them is no declared type
+abbrev pub between : Program → Option ℕ → Option ℕ → ℕ
+between p None b = 0
+between p (Some a) None = 0
+between p (Some a) (Some b) = lowering p a b
+
+-- the distance from what arrives for a class's method to what a type, or a class, says that it gives
+abbrev pub to_type : Program → ℕ → ℕ → ℕ → ℕ
+to_type p c m t = between p (given_in (class_arrives (slice_get p.classes c)) m) (given_in (type_gives (slice_get p.types t)) m)
+
+abbrev pub to_class : Program → ℕ → ℕ → ℕ → ℕ
+to_class p c m d = between p (given_in (class_arrives (slice_get p.classes c)) m) (given_in (class_gives (slice_get p.classes d)) m)
+
+-- whether a class has a method: its type has it, or it or an inherited class has it hidden, or an inherited class's type has it
+abbrev pub knows : List Link → ℕ → Bool
+knows [] m = false
+knows (c ∷ rest) m = cond (offers c.of m) true (cond (among c.hidden m) true (knows rest m))
+
+abbrev pub where_true : Bool → ℕ → Option ℕ
+where_true b n = cond b (Some n) None
+
+-- the distance of the body that a class's walk finds to a type's or a class's result; none where no body is found or the other has no such method
+abbrev pub narrowed_at : Program → ℕ → ℕ → ℕ → Option ℕ
+narrowed_at p c m to = option_and_then (λ b. answer (λ t. where_true (offers (tree_of p.types t) m) (to_type p c m t))
+  (λ d. where_true (knows (chain_of p d) m) (to_class p c m d)) (type_place p to) (class_place p to)) (lookup (chain_of p c) m)
+
+abbrev pub narrowed_of : Program → ℕ → ℕ → ℕ → Option ℕ
+narrowed_of p n m to = option_and_then (λ c. narrowed_at p c m to) (class_place p n)

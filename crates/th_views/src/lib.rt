@@ -4,12 +4,13 @@
 
 ghost use Rattle.std.specs.Prelude.{◌≡◌, ℕ, List, Bool, Option, IsTrue};
 ghost use Rattle.th_views.specs.Bridges.{Made, Rules, Rule8, At, Reach, Arrives};
-ghost use Rattle.th_views.specs.Laws.{TypeCasts, TypeSlotsApart, V1, V2, V3, V5, Counted};
+ghost use Rattle.th_views.specs.Laws.{TypeCasts, TypeSlotsApart, V1, V2, V3, V3Whole, V5, Counted};
 ghost use Rattle.th_views.specs.Objects.{Sound};
 ghost use Rattle.th_views.specs.Rows.{Ordered, Program};
 ghost use Rattle.th_views.specs.Terms.{Term, Terms, Full, sub, result_of};
 ghost use Rattle.th_views.specs.declared.TypeRow.{TypeRow};
 
+use std::marker::Model;
 use th_type::NumberList;
 
 /// Which declared supertype of a type comes next: the first, the second (with whether the first is
@@ -28,6 +29,44 @@ pub struct Spot {
     pub word: u32,
 }
 
+/// A method whose result is a declared type, and the place of that type in the list of types.
+#[derive(Clone, Copy)]
+pub struct Gives {
+    pub method: u32,
+    pub of: u32,
+}
+
+/// Methods whose results are declared types. A contract sees the list of its items.
+#[derive(Drop)]
+pub struct GivesList {
+    list: Vec<Gives>,
+}
+
+impl Model for GivesList {
+    ghost use Rattle.std.specs.Prelude.{List};
+    ghost use Rattle.th_views.specs.declared.Gives.{Gives};
+
+    ghost Value = { List Gives };
+
+    ghost view = { λ a. a.list.items };
+}
+
+impl GivesList {
+    /// The list of these items. It takes no memory.
+    pub fn of(items: Vec<Gives>) -> Self
+        ensures { result ≡ items.items }
+    {
+        GivesList { list: items }
+    }
+
+    /// The items as a slice.
+    pub fn as_slice(&self) -> &[Gives]
+        ensures { result.now ≡ self.now }
+    {
+        &self.list
+    }
+}
+
 /// A declared type as the layout sees it.
 #[derive(Drop)]
 pub struct TypeRow {
@@ -39,6 +78,8 @@ pub struct TypeRow {
     pub marked: bool,
     /// The numbers of its own methods, in their order.
     pub own: NumberList,
+    /// The results of its methods over its own parameters, where they are declared types.
+    pub gives: GivesList,
 }
 
 /// A class as the layout sees it.
@@ -60,6 +101,22 @@ pub struct ClassRow {
     /// The words for its where-clauses, and its fields, without those that it inherits.
     pub wheres: u32,
     pub fields: u32,
+    /// The results of its signatures that aren't hidden methods', where they are declared types.
+    pub gives: GivesList,
+    /// For each method, the result at which the body that the walk finds arrives, where it is a
+    /// declared type: that of the first signature, from the body's class down to this one, that isn't
+    /// a hidden method's.
+    pub arrives: GivesList,
+}
+
+/// A slot of a table: its offset in bytes from the middle word, the method, the class whose body it
+/// holds, and the distance in bytes by which a bridge lowers the result, 0 without a bridge.
+#[derive(Clone, Copy)]
+pub struct Slot {
+    pub offset: i32,
+    pub method: u32,
+    pub body: u32,
+    pub bridge: u32,
 }
 
 /// The laws of the headers of types, over all programs: each supertype of a type seen at a word is
@@ -74,6 +131,7 @@ pub fn object_laws()
     ensures v1 { (p : Program) → Sound p → V1 p }
     ensures v2 { (p : Program) → Sound p → V2 p }
     ensures v3 { (p : Program) → Sound p → V3 p }
+    ensures v3_whole { (p : Program) → Sound p → V3Whole p }
     ensures v5 { (p : Program) → Sound p → V5 p }
     ensures counted { (p : Program) → Counted p }
 {}
