@@ -3,6 +3,7 @@
 
 mod counts;
 mod heads;
+mod heads_of;
 mod layout;
 mod limits;
 mod maps;
