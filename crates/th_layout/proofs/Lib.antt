@@ -11,3 +11,5 @@ pub mod Judged
 pub mod Seeing
 pub mod Heading
 pub mod Found
+pub mod Keeping
+pub mod Running

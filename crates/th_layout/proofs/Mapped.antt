@@ -23,11 +23,11 @@ after_map k (Some i) = let e : k + 1 + i ≡ k + (i + 1) = omega arith in ap Som
 pub from_is : (k : ℕ) (l : List ℕ) (q : ℕ) → index_from k l q ≡ option_map (λ i. k + i) (index_of q l)
 from_is k [] q = refl
 from_is k (x ∷ xs) q = by (nat_eq x q) (from_is (k + 1) xs q ∙ after_map k (index_of q xs))
- where
-  by : (b : Bool) → index_from (k + 1) xs q ≡ option_map (λ i. k + i) (after (index_of q xs))
-    → cond b (Some k) (index_from (k + 1) xs q) ≡ option_map (λ i. k + i) (cond b (Some 0) (after (index_of q xs)))
-  by true e = let z : k ≡ k + 0 = omega arith in ap Some z
-  by false e = e
+  where
+    by : (b : Bool) → index_from (k + 1) xs q ≡ option_map (λ i. k + i) (after (index_of q xs))
+        → cond b (Some k) (index_from (k + 1) xs q) ≡ option_map (λ i. k + i) (cond b (Some 0) (after (index_of q xs)))
+    by true e = let z : k ≡ k + 0 = omega arith in ap Some z
+    by false e = e
 
 zero_map : (o : Option ℕ) → option_map (λ i. 0 + i) o ≡ o
 zero_map None = refl
@@ -57,10 +57,10 @@ owned_in f m (s ∷ ss) = or_else (own_place m (f s.name)) (owned_in f m ss)
 owned_append : (f : ℕ → Tree) (m : ℕ) (a b : List Spot) → owned_in f m (a ++ b) ≡ or_else (owned_in f m a) (owned_in f m b)
 owned_append f m [] b = refl
 owned_append f m (s ∷ ss) b = ap (or_else (own_place m (f s.name))) (owned_append f m ss b) ∙ again (own_place m (f s.name)) (owned_in f m ss) (owned_in f m b)
- where
-  again : (x y z : Option Place) → or_else x (or_else y z) ≡ or_else (or_else x y) z
-  again None y z = refl
-  again (Some x) y z = refl
+  where
+    again : (x y z : Option Place) → or_else x (or_else y z) ≡ or_else (or_else x y) z
+    again None y z = refl
+    again (Some x) y z = refl
 
 owned_lowered : (f : ℕ → Tree) (m k : ℕ) (l : List Spot) → owned_in f m (lowered k l) ≡ owned_in f m l
 owned_lowered f m k [] = refl
@@ -77,14 +77,14 @@ abbrev mutual
 mutual
   owned_spots : (f : ℕ → Tree) (m : ℕ) (x : Tree) → Rooted f x → owned_in f m (spots x) ≡ first_place x m
   owned_spots f m (Node n g own ss) r = ap (λ y. or_else (own_place m y) (owned_in f m (spots_in First 0 ss))) (sym r.0)
-    ∙ ap (or_else (own_place m (Node n g own ss))) (owned_spots_in f m First 0 ss r.1)
+      ∙ ap (or_else (own_place m (Node n g own ss))) (owned_spots_in f m First 0 ss r.1)
 
   owned_spots_in : (f : ℕ → Tree) (m : ℕ) (p : Turn) (b : ℕ) (ss : Trees) → RootedIn f ss → owned_in f m (spots_in p b ss) ≡ first_place_in ss m
   owned_spots_in f m p b End r = refl
   owned_spots_in f m p b (Also s rest) r =
-    owned_append f m (lowered (at (merged_at p (is_up s)) b) (spots s)) (spots_in (next p (topped s)) (b + room (merged_at p (is_up s)) (span s)) rest)
-    ∙ ap (λ y. or_else y (owned_in f m (spots_in (next p (topped s)) (b + room (merged_at p (is_up s)) (span s)) rest))) (owned_lowered f m (at (merged_at p (is_up s)) b) (spots s) ∙ owned_spots f m s r.0)
-    ∙ ap (or_else (first_place s m)) (owned_spots_in f m (next p (topped s)) (b + room (merged_at p (is_up s)) (span s)) rest r.1)
+      owned_append f m (lowered (at (merged_at p (is_up s)) b) (spots s)) (spots_in (next p (topped s)) (b + room (merged_at p (is_up s)) (span s)) rest)
+      ∙ ap (λ y. or_else y (owned_in f m (spots_in (next p (topped s)) (b + room (merged_at p (is_up s)) (span s)) rest))) (owned_lowered f m (at (merged_at p (is_up s)) b) (spots s) ∙ owned_spots f m s r.0)
+      ∙ ap (or_else (first_place s m)) (owned_spots_in f m (next p (topped s)) (b + room (merged_at p (is_up s)) (span s)) rest r.1)
 
 -- whether there is an answer
 abbrev Answers : Bool → Option Place → Type 0
@@ -99,16 +99,16 @@ answer_or false false x y h g = ap (λ z. or_else z y) h ∙ g
 own_answer : (n : ℕ) (g : Bool) (l own : List ℕ) (ss : Trees) (m : ℕ) → Answers (among l m) (option_map (place (Node n g own ss)) (index_of m l))
 own_answer n g [] own ss m = refl
 own_answer n g (x ∷ xs) own ss m = by (nat_eq x m) (own_answer n g xs own ss m)
- where
-  next_answer : (b : Bool) (o : Option ℕ) → Answers b (option_map (place (Node n g own ss)) o) → Answers b (option_map (place (Node n g own ss)) (after o))
-  next_answer true None h = absurd (cc)
-  next_answer true (Some i) h = (place (Node n g own ss) (i + 1), refl)
-  next_answer false None h = refl
-  next_answer false (Some i) h = absurd (cc)
+  where
+    next_answer : (b : Bool) (o : Option ℕ) → Answers b (option_map (place (Node n g own ss)) o) → Answers b (option_map (place (Node n g own ss)) (after o))
+    next_answer true None h = absurd (cc)
+    next_answer true (Some i) h = (place (Node n g own ss) (i + 1), refl)
+    next_answer false None h = refl
+    next_answer false (Some i) h = absurd (cc)
 
-  by : (b : Bool) → Answers (among xs m) (option_map (place (Node n g own ss)) (index_of m xs)) → Answers (cond b true (among xs m)) (option_map (place (Node n g own ss)) (cond b (Some 0) (after (index_of m xs))))
-  by true h = (place (Node n g own ss) 0, refl)
-  by false h = next_answer (among xs m) (index_of m xs) h
+    by : (b : Bool) → Answers (among xs m) (option_map (place (Node n g own ss)) (index_of m xs)) → Answers (cond b true (among xs m)) (option_map (place (Node n g own ss)) (cond b (Some 0) (after (index_of m xs))))
+    by true h = (place (Node n g own ss) 0, refl)
+    by false h = next_answer (among xs m) (index_of m xs) h
 
 mutual
   offers_answer : (x : Tree) (m : ℕ) → Answers (offers x m) (first_place x m)
@@ -119,7 +119,7 @@ mutual
   offers_answer_in (Also s rest) m = answer_or (offers s m) (offers_in rest m) (first_place s m) (first_place_in rest m) (offers_answer s m) (offers_answer_in rest m)
 
 or_pick : (a : Bool) (m : ℕ) (x y : Option Place) (s t : Option Tree) → Answers a x → option_and_then (own_place m) s ≡ x → option_and_then (own_place m) t ≡ y
-  → option_and_then (own_place m) (cond a s t) ≡ or_else x y
+    → option_and_then (own_place m) (cond a s t) ≡ or_else x y
 or_pick true m x y s t h e f = e ∙ h.1 ∙ sym (ap (λ z. or_else z y) h.1)
 or_pick false m x y s t h e f = f ∙ sym (ap (λ z. or_else z y) h)
 
@@ -143,12 +143,12 @@ rooted rows o (suc h) n l = (same (graph_of rows) (λ k. k) o (suc h) n n l (le_
 offset_owned : (rows : List TypeRow) (l : List Spot) (q : ℕ) → offset_in rows l q ≡ option_map offset (owned_in (tree_of rows) q l)
 offset_owned rows [] q = refl
 offset_owned rows (s ∷ ss) q = ap (or_else (option_map offset (own_place q (tree_of rows s.name)))) (offset_owned rows ss q) ∙ over (own_place q (tree_of rows s.name)) (owned_in (tree_of rows) q ss)
- where
-  over : (x y : Option Place) → or_else (option_map offset x) (option_map offset y) ≡ option_map offset (or_else x y)
-  over None y = refl
-  over (Some x) y = refl
+  where
+    over : (x y : Option Place) → or_else (option_map offset x) (option_map offset y) ≡ option_map offset (or_else x y)
+    over None y = refl
+    over (Some x) y = refl
 
 -- the first type seen that owns a method is its home
 pub offset_is : (rows : List TypeRow) → Ordered rows → (n q : ℕ) → offset_in rows (spots (tree_of rows n)) q ≡ option_map offset (method_place (tree_of rows n) q)
 offset_is rows o n q = offset_owned rows (spots (tree_of rows n)) q
-  ∙ ap (option_map offset) (owned_spots (tree_of rows) q (tree_of rows n) (rooted rows o n n (le_refl n)) ∙ sym (home_first (tree_of rows n) q))
+    ∙ ap (option_map offset) (owned_spots (tree_of rows) q (tree_of rows n) (rooted rows o n n (le_refl n)) ∙ sym (home_first (tree_of rows n) q))

@@ -21,7 +21,7 @@ use Rattle.th_layout.proofs.Mapped.{offset_is}
 use Rattle.th_layout.proofs.Spotting.{list_at}
 
 pub push_each : {A : Type 0} (P : ℕ → Option A → Type 0) (done : List A) (x : A) → ((k : ℕ) → k < length done → P k (slice_get done k)) → P (length done) (Some x)
-  → (k : ℕ) → k < length (done ++ x ∷ []) → P k (slice_get (done ++ x ∷ []) k)
+    → (k : ℕ) → k < length (done ++ x ∷ []) → P k (slice_get (done ++ x ∷ []) k)
 push_each P [] x a b zero h = b
 push_each P [] x a b (suc k) h = absurd (omega arith)
 push_each P (y ∷ ys) x a b zero h = a zero (omega arith)
@@ -36,19 +36,19 @@ got_spots (x ∷ xs) zero r h = refl
 got_spots (x ∷ xs) (suc n) r h = got_spots xs n r (omega arith)
 
 pub cast_push : (spots : List Spots) (done all : List Casts) (x : Casts) (n : ℕ) (s r : Spots) → length done ≡ n → n < length spots → Cast spots done → s ≡ get_or spots n r
-  → ((q : ℕ) → get nat_eq x.words q ≡ first_of q s.list.items) → all ≡ done ++ x ∷ [] → Cast spots all
+    → ((q : ℕ) → get nat_eq x.words q ≡ first_of q s.list.items) → all ≡ done ++ x ∷ [] → Cast spots all
 cast_push spots done all x n s r l h d e g a =
-  let y : CastAt (Some x) (slice_get spots n) = subst (λ o. CastAt (Some x) o) (sym (got_spots spots n r h ∙ ap Some (sym e))) g in
-  subst (Cast spots) (sym a) (push_each (λ k o. CastAt o (slice_get spots k)) done x d (subst (λ k. CastAt (Some x) (slice_get spots k)) (sym l) y))
+    let y : CastAt (Some x) (slice_get spots n) = subst (λ o. CastAt (Some x) o) (sym (got_spots spots n r h ∙ ap Some (sym e))) g in
+    subst (Cast spots) (sym a) (push_each (λ k o. CastAt o (slice_get spots k)) done x d (subst (λ k. CastAt (Some x) (slice_get spots k)) (sym l) y))
 
 pub homed_push : (rows : List TypeRow) (o : Ordered rows) (seen : List Spots) (done all : List Offsets) (x : Offsets) (n : ℕ) (s r : Spots) (list : List Spot) → length done ≡ n → n < length rows → length seen ≡ length rows
-  → Spotted rows seen → Homed rows done → s ≡ get_or seen n r → list ≡ s.list.items
-  → ((q : ℕ) → get nat_eq x.bytes q ≡ offset_in rows list q) → all ≡ done ++ x ∷ [] → Homed rows all
+    → Spotted rows seen → Homed rows done → s ≡ get_or seen n r → list ≡ s.list.items
+    → ((q : ℕ) → get nat_eq x.bytes q ≡ offset_in rows list q) → all ≡ done ++ x ∷ [] → Homed rows all
 homed_push rows o seen done all x n s r list l h m w d e f g a =
-  let b : n < length seen = omega arith in
-  let y : list ≡ spots (tree_of rows n) = f ∙ ap (λ z. z.list.items) e ∙ list_at seen n r (tree_of rows n) b (w n b) in
-  let z : HomedAt (Some x) (tree_of rows n) = λ q. g q ∙ ap (λ t. offset_in rows t q) y ∙ offset_is rows o n q in
-  subst (Homed rows) (sym a) (push_each (λ k v. HomedAt v (tree_of rows k)) done x d (subst (λ k. HomedAt (Some x) (tree_of rows k)) (sym l) z))
+    let b : n < length seen = omega arith in
+    let y : list ≡ spots (tree_of rows n) = f ∙ ap (λ z. z.list.items) e ∙ list_at seen n r (tree_of rows n) b (w n b) in
+    let z : HomedAt (Some x) (tree_of rows n) = λ q. g q ∙ ap (λ t. offset_in rows t q) y ∙ offset_is rows o n q in
+    subst (Homed rows) (sym a) (push_each (λ k v. HomedAt v (tree_of rows k)) done x d (subst (λ k. HomedAt (Some x) (tree_of rows k)) (sym l) z))
 
 -- the types seen stand before
 within_more : (n m : ℕ) (l : List Spot) → n ≤ m → Within n l → Within m l
@@ -66,22 +66,25 @@ within_lowered n k (s ∷ ss) h = (h.0, within_lowered n k ss h.1)
 within_list : (f : ℕ → Tree) (p : Turn) (b k : ℕ) (ss : List ℕ) → EachLower (λ n. n) k ss → ((s : ℕ) → s < k → Within k (spots (f s))) → Within k (spots_in p b (trees_by f ss))
 within_list f p b k [] e again = tt
 within_list f p b k (s ∷ ss) e again = within_append k (lowered (at (merged_at p (is_up (f s))) b) (spots (f s)))
-  (spots_in (next p (topped (f s))) (b + room (merged_at p (is_up (f s))) (span (f s))) (trees_by f ss))
-  (within_lowered k (at (merged_at p (is_up (f s))) b) (spots (f s)) (again s e.0))
-  (within_list f (next p (topped (f s))) (b + room (merged_at p (is_up (f s))) (span (f s))) k ss e.1 again)
+    (spots_in (next p (topped (f s))) (b + room (merged_at p (is_up (f s))) (span (f s))) (trees_by f ss))
+    (within_lowered k (at (merged_at p (is_up (f s))) b) (spots (f s)) (again s e.0))
+    (within_list f (next p (topped (f s))) (b + room (merged_at p (is_up (f s))) (span (f s))) k ss e.1 again)
 
 within_grow : (rows : List TypeRow) → Ordered rows → (h n : ℕ) → n ≤ h → Within (suc n) (spots (grow (graph_of rows) h n))
 within_grow rows o zero n l = (omega arith, tt)
-within_grow rows o (suc h) n l = (omega arith, within_more n (suc n) (spots_in First 0 (trees_by (grow (graph_of rows) h) (supers_in (slice_get rows n)))) (omega arith)
-  (within_list (grow (graph_of rows) h) First 0 n (supers_in (slice_get rows n)) (o n)
-    (λ s k. within_more (suc s) n (spots (grow (graph_of rows) h s)) (omega arith) (within_grow rows o h s (omega arith)))))
+within_grow rows o (suc h) n l = (
+  omega arith,
+  within_more n (suc n) (spots_in First 0 (trees_by (grow (graph_of rows) h) (supers_in (slice_get rows n)))) (omega arith)
+      (within_list (grow (graph_of rows) h) First 0 n (supers_in (slice_get rows n)) (o n)
+      (λ s k. within_more (suc s) n (spots (grow (graph_of rows) h s)) (omega arith) (within_grow rows o h s (omega arith)))),
+)
 
 pub within_rows : (rows : List TypeRow) (o : Ordered rows) (seen : List Spots) (n : ℕ) (s r : Spots) (list : List Spot) → n < length rows → length seen ≡ length rows → Spotted rows seen
-  → s ≡ get_or seen n r → list ≡ s.list.items → Within (length rows) list
+    → s ≡ get_or seen n r → list ≡ s.list.items → Within (length rows) list
 within_rows rows o seen n s r list h m w e f =
-  let b : n < length seen = omega arith in
-  let y : list ≡ spots (tree_of rows n) = f ∙ ap (λ z. z.list.items) e ∙ list_at seen n r (tree_of rows n) b (w n b) in
-  subst (Within (length rows)) (sym y) (within_more (suc n) (length rows) (spots (tree_of rows n)) (omega arith) (within_grow rows o n n (le_refl n)))
+    let b : n < length seen = omega arith in
+    let y : list ≡ spots (tree_of rows n) = f ∙ ap (λ z. z.list.items) e ∙ list_at seen n r (tree_of rows n) b (w n b) in
+    subst (Within (length rows)) (sym y) (within_more (suc n) (length rows) (spots (tree_of rows n)) (omega arith) (within_grow rows o n n (le_refl n)))
 
 own_few : (rows : List TypeRow) (n : ℕ) → length (own_in (slice_get rows n)) ≤ plain_depth (tree_of rows n)
 own_few rows zero = omega arith
@@ -94,4 +97,4 @@ own_got (x ∷ xs) (suc n) r h = own_got xs n r (omega arith)
 
 pub own_short : (rows : List TypeRow) (n : ℕ) (r : TypeRow) → n < length rows → Shallow rows → length (get_or rows n r).own ≤ 250
 own_short rows n r h few = let a : length (own_in (slice_get rows n)) ≤ plain_depth (tree_of rows n) = own_few rows n in let b : plain_depth (tree_of rows n) ≤ 250 = few n in
-  let e : length (own_in (slice_get rows n)) ≡ length (get_or rows n r).own = ap length (own_got rows n r h) in omega arith
+    let e : length (own_in (slice_get rows n)) ≡ length (get_or rows n r).own = ap length (own_got rows n r h) in omega arith

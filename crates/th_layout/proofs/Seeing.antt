@@ -36,31 +36,31 @@ start_few : (l : List Link) (s : ℕ) → words l ≤ 64 → s ≡ start l → s
 start_few l s h e = omega arith
 
 pub lower_ok : (p : Program) (o : Inherited p.classes) (objects : List Object) (seen : List Spots) (n : ℕ) (c : ClassRow) (d : Object) (y : Spots) (low : ℕ) (from : List Spot)
-  → n < length p.classes → length objects ≡ length p.classes → Formed p objects → FewWords p → c.of < length p.types → length seen ≡ length p.types → Spotted p.types seen → Few p.types
-  → low ≡ (get_or objects n d).start → from ≡ (get_or seen c.of y).list.items
-  → (k : ℕ) → low + (get_or from k (record { name = 0; word = 0 })).word < 2 ^ 32
+    → n < length p.classes → length objects ≡ length p.classes → Formed p objects → FewWords p → c.of < length p.types → length seen ≡ length p.types → Spotted p.types seen → Few p.types
+    → low ≡ (get_or objects n d).start → from ≡ (get_or seen c.of y).list.items
+    → (k : ℕ) → low + (get_or from k (record { name = 0; word = 0 })).word < 2 ^ 32
 lower_ok p o objects seen n c d y low from h m f w b q s few e g k =
-  let i : n < length objects = omega arith in
-  let z : IsObject (get_or objects n d) (chain_of p n) = object_got objects n d (chain_of p n) i (f n i) in
-  let a : low ≤ 64 = start_few (chain_of p n) low (w n) (e ∙ z.start) in
-  let j : c.of < length seen = omega arith in
-  let l : from ≡ spots (tree_of p.types c.of) = g ∙ list_at seen c.of y (tree_of p.types c.of) j (s c.of j) in
-  let v : (get_or from k (record { name = 0; word = 0 })).word < span (tree_of p.types c.of) = spot_at from k (span (tree_of p.types c.of)) (span_some (tree_of p.types c.of))
+    let i : n < length objects = omega arith in
+    let z : IsObject (get_or objects n d) (chain_of p n) = object_got objects n d (chain_of p n) i (f n i) in
+    let a : low ≤ 64 = start_few (chain_of p n) low (w n) (e ∙ z.start) in
+    let j : c.of < length seen = omega arith in
+    let l : from ≡ spots (tree_of p.types c.of) = g ∙ list_at seen c.of y (tree_of p.types c.of) j (s c.of j) in
+    let v : (get_or from k (record { name = 0; word = 0 })).word < span (tree_of p.types c.of) = spot_at from k (span (tree_of p.types c.of)) (span_some (tree_of p.types c.of))
     (λ t u r. spot_below (tree_of p.types c.of) t u (subst (λ x. HasSpot x t u) l r)) in
-  let x : span (tree_of p.types c.of) ≤ 64 = few c.of in omega arith
+    let x : span (tree_of p.types c.of) ≤ 64 = few c.of in omega arith
 
 pub seen_made : (p : Program) (o : Inherited p.classes) (objects : List Object) (seen : List Spots) (n : ℕ) (c r : ClassRow) (d : Object) (y : Spots) (low : ℕ) (from none first all : List Spot)
-  → n < length p.classes → c ≡ get_or p.classes n r → length objects ≡ length p.classes → Formed p objects → c.of < length p.types → length seen ≡ length p.types → Spotted p.types seen
-  → low ≡ (get_or objects n d).start → from ≡ (get_or seen c.of y).list.items → none ≡ [] → first ≡ none ++ lowered low from → all ≡ first ++ object_spots (inherited (chain_of p) c.inherits)
-  → all ≡ object_spots (chain_of p n)
+    → n < length p.classes → c ≡ get_or p.classes n r → length objects ≡ length p.classes → Formed p objects → c.of < length p.types → length seen ≡ length p.types → Spotted p.types seen
+    → low ≡ (get_or objects n d).start → from ≡ (get_or seen c.of y).list.items → none ≡ [] → first ≡ none ++ lowered low from → all ≡ first ++ object_spots (inherited (chain_of p) c.inherits)
+    → all ≡ object_spots (chain_of p n)
 seen_made p o objects seen n c r d y low from none first all h q m f b u s e g a v w =
-  let i : n < length objects = omega arith in
-  let z : IsObject (get_or objects n d) (chain_of p n) = object_got objects n d (chain_of p n) i (f n i) in
-  let j : c.of < length seen = omega arith in
-  let l : from ≡ spots (tree_of p.types c.of) = g ∙ list_at seen c.of y (tree_of p.types c.of) j (s c.of j) in
-  let k : chain_of p n ≡ link p.types c ∷ inherited (chain_of p) c.inherits = chain_by p o n c r h q in
-  let x : low ≡ start (link p.types c ∷ inherited (chain_of p) c.inherits) = e ∙ z.start ∙ ap start k in
-  w ∙ ap (λ t. t ++ object_spots (inherited (chain_of p) c.inherits)) (v ∙ ap (λ t. t ++ lowered low from) a ∙ ap (λ t. lowered t from) x ∙ ap (lowered (start (link p.types c ∷ inherited (chain_of p) c.inherits))) l)
+    let i : n < length objects = omega arith in
+    let z : IsObject (get_or objects n d) (chain_of p n) = object_got objects n d (chain_of p n) i (f n i) in
+    let j : c.of < length seen = omega arith in
+    let l : from ≡ spots (tree_of p.types c.of) = g ∙ list_at seen c.of y (tree_of p.types c.of) j (s c.of j) in
+    let k : chain_of p n ≡ link p.types c ∷ inherited (chain_of p) c.inherits = chain_by p o n c r h q in
+    let x : low ≡ start (link p.types c ∷ inherited (chain_of p) c.inherits) = e ∙ z.start ∙ ap start k in
+    w ∙ ap (λ t. t ++ object_spots (inherited (chain_of p) c.inherits)) (v ∙ ap (λ t. t ++ lowered low from) a ∙ ap (λ t. lowered t from) x ∙ ap (lowered (start (link p.types c ∷ inherited (chain_of p) c.inherits))) l)
     ∙ sym (ap object_spots k)
 
 map_above : (k : ℕ) (o : Option ℕ) → option_map (λ i. offset (placed true (k + i))) o ≡ option_map offset (option_map (λ i. Above (k + i)) o)
@@ -77,11 +77,11 @@ picked false x h = omega arith
 raised_few : (types : List TypeRow) → ((r : TypeRow) (n : ℕ) → n < length types → length (get_or types n r).own ≤ 250) → raised types ≤ 250
 raised_few [] f = omega arith
 raised_few (r ∷ rest) f =
-  let a : upward_count r ≤ 250 = count_few r (f r 0 (omega arith)) in
-  let b : raised rest ≤ 250 = raised_few rest (λ x n h. f x (suc n) (omega arith)) in omega arith
- where
-  count_few : (r : TypeRow) → length r.own ≤ 250 → upward_count r ≤ 250
-  count_few r h = picked (cond r.marked (none r.supers) false) (length r.own) h
+    let a : upward_count r ≤ 250 = count_few r (f r 0 (omega arith)) in
+    let b : raised rest ≤ 250 = raised_few rest (λ x n h. f x (suc n) (omega arith)) in omega arith
+  where
+    count_few : (r : TypeRow) → length r.own ≤ 250 → upward_count r ≤ 250
+    count_few r h = picked (cond r.marked (none r.supers) false) (length r.own) h
 
 names_got : (l : List (List ℕ)) (n : ℕ) (d x : List ℕ) → n < length l → slice_get l n ≡ Some x → get_or l n d ≡ x
 names_got [] n d x h e = absurd (omega arith)
@@ -93,12 +93,12 @@ hidden_names p names n d list m h f e = let i : n < length names = omega arith i
 
 pub hidden_fits : (p : Program) (k n : ℕ) (list : List ℕ) → k ≡ raised p.types → Shallow p.types → ((c : ℕ) → class_slots (chain_of p c) ≤ 250) → list ≡ hidden (chain_of p n) → k + length list ≤ 1000
 hidden_fits p k n list e s f q =
-  let a : raised p.types ≤ 250 = raised_few p.types (λ r m h. own_short p.types m r h s) in
-  let b : class_slots (chain_of p n) ≤ 250 = f n in
-  let l : length list ≡ length (hidden (chain_of p n)) = ap length q in omega arith
+    let a : raised p.types ≤ 250 = raised_few p.types (λ r m h. own_short p.types m r h s) in
+    let b : class_slots (chain_of p n) ≤ 250 = f n in
+    let l : length list ≡ length (hidden (chain_of p n)) = ap length q in omega arith
 
 pub hidden_push : (p : Program) (done all : List Offsets) (x : Offsets) (n k : ℕ) (list : List ℕ) → length done ≡ n → HiddenAts p done → k ≡ raised p.types → list ≡ hidden (chain_of p n)
-  → ((q : ℕ) → get nat_eq x.bytes q ≡ offset_from true k list q) → all ≡ done ++ x ∷ [] → HiddenAts p all
+    → ((q : ℕ) → get nat_eq x.bytes q ≡ offset_from true k list q) → all ≡ done ++ x ∷ [] → HiddenAts p all
 hidden_push p done all x n k list l d e g f a =
-  let z : HiddenAtsOf (Some x) p n = λ q. f q ∙ ap (λ j. offset_from true j list q) e ∙ hidden_at p n q list g in
-  subst (HiddenAts p) (sym a) (push_each (λ j v. HiddenAtsOf v p j) done x d (subst (HiddenAtsOf (Some x) p) (sym l) z))
+    let z : HiddenAtsOf (Some x) p n = λ q. f q ∙ ap (λ j. offset_from true j list q) e ∙ hidden_at p n q list g in
+    subst (HiddenAts p) (sym a) (push_each (λ j v. HiddenAtsOf v p j) done x d (subst (HiddenAtsOf (Some x) p) (sym l) z))

@@ -21,7 +21,7 @@ class_got (x ∷ xs) zero r h = refl
 class_got (x ∷ xs) (suc n) r h = class_got xs n r (omega arith)
 
 pub chain_at : (p : Program) (o : Inherited p.classes) (n : ℕ) (r : ClassRow) → n < length p.classes
-  → chain_of p n ≡ link p.types (get_or p.classes n r) ∷ inherited (chain_of p) (get_or p.classes n r).inherits
+    → chain_of p n ≡ link p.types (get_or p.classes n r) ∷ inherited (chain_of p) (get_or p.classes n r).inherits
 chain_at p o n r h = chain_is p o n ∙ ap (λ x. linked p.types x (inherited (chain_of p) (inherits_in x))) (class_got p.classes n r h)
 
 pick : (b : Bool) (x y z w : ℕ) → x ≡ z → y ≡ w → cond b x y ≡ cond b z w
@@ -33,27 +33,27 @@ capped_pick true x y = refl
 capped_pick false x y = refl
 
 pub tally_link : (l : Link) (c : ClassRow) (rest : List Link) (up : Tally) (s g : ℕ) → l.extends ≡ c.extends → l.hidden ≡ c.hidden → l.wheres ≡ c.wheres → l.fields ≡ c.fields → IsTally up rest
-  → s ≡ min 65 (sum l.of) → g ≡ min 251 (greatest l.of) → IsTally (tally_on c up s g) (l ∷ rest)
+    → s ≡ min 65 (sum l.of) → g ≡ min 251 (greatest l.of) → IsTally (tally_on c up s g) (l ∷ rest)
 tally_link l c rest up s g a b w f t e k =
-  let x : cond c.extends up.sum_start up.sum ≡ min 65 (cond l.extends (sum_start rest) (sum_words rest)) =
+    let x : cond c.extends up.sum_start up.sum ≡ min 65 (cond l.extends (sum_start rest) (sum_words rest)) =
     pick c.extends up.sum_start up.sum (min 65 (sum_start rest)) (min 65 (sum_words rest)) t.sum_start t.sum ∙ capped_pick c.extends (sum_start rest) (sum_words rest)
     ∙ ap (λ y. min 65 (cond y (sum_start rest) (sum_words rest))) (sym a) in
-  let h : length (hidden rest ++ l.hidden) ≡ length (hidden rest) + length l.hidden = length-append (hidden rest) l.hidden in
-  let m : length l.hidden ≡ length c.hidden = ap length b in
-  let th : up.hidden ≡ min 251 (length (hidden rest)) = t.hidden in
-  let td : up.down ≡ min 251 (most_down rest) = t.down in
-  let tf : up.filled ≡ min 401 (filled rest) = t.filled in
-  record { sum_start = x; sum = sum_at (cond c.extends up.sum_start up.sum) (cond l.extends (sum_start rest) (sum_words rest)) s (sum l.of) x e; down = omega arith; hidden = omega arith; filled = omega arith }
- where
-  sum_at : (y z s q : ℕ) → y ≡ min 65 z → s ≡ min 65 q → min 65 (y + s) ≡ min 65 (z + q)
-  sum_at y z s q a b = omega arith
+    let h : length (hidden rest ++ l.hidden) ≡ length (hidden rest) + length l.hidden = length-append (hidden rest) l.hidden in
+    let m : length l.hidden ≡ length c.hidden = ap length b in
+    let th : up.hidden ≡ min 251 (length (hidden rest)) = t.hidden in
+    let td : up.down ≡ min 251 (most_down rest) = t.down in
+    let tf : up.filled ≡ min 401 (filled rest) = t.filled in
+    record { sum_start = x; sum = sum_at (cond c.extends up.sum_start up.sum) (cond l.extends (sum_start rest) (sum_words rest)) s (sum l.of) x e; down = omega arith; hidden = omega arith; filled = omega arith }
+  where
+    sum_at : (y z s q : ℕ) → y ≡ min 65 z → s ≡ min 65 q → min 65 (y + s) ≡ min 65 (z + q)
+    sum_at y z s q a b = omega arith
 
 pub tally_made : (p : Program) (o : Inherited p.classes) (n : ℕ) (c r : ClassRow) (up z : Tally) (s g : ℕ) → n < length p.classes → c ≡ get_or p.classes n r
-  → IsTally up (inherited (chain_of p) c.inherits) → s ≡ min 65 (sum (tree_of p.types c.of)) → g ≡ min 251 (greatest (tree_of p.types c.of)) → z ≡ tally_on c up s g → IsTally z (chain_of p n)
+    → IsTally up (inherited (chain_of p) c.inherits) → s ≡ min 65 (sum (tree_of p.types c.of)) → g ≡ min 251 (greatest (tree_of p.types c.of)) → z ≡ tally_on c up s g → IsTally z (chain_of p n)
 tally_made p o n c r up z s g h q t a b e =
-  subst (λ l. IsTally z l) (sym (chain_at p o n r h ∙ ap (λ x. link p.types x ∷ inherited (chain_of p) x.inherits) (sym q)))
+    subst (λ l. IsTally z l) (sym (chain_at p o n r h ∙ ap (λ x. link p.types x ∷ inherited (chain_of p) x.inherits) (sym q)))
     (subst (λ y. IsTally y (link p.types c ∷ inherited (chain_of p) c.inherits)) (sym e)
-      (tally_link (link p.types c) c (inherited (chain_of p) c.inherits) up s g refl refl refl refl t a b))
+    (tally_link (link p.types c) c (inherited (chain_of p) c.inherits) up s g refl refl refl refl t a b))
 
 -- one more number and count
 lesser_again : (a b c : Option ℕ) → lesser (lesser a b) c ≡ lesser a (lesser b c)
@@ -67,18 +67,18 @@ lesser_none None = refl
 lesser_none (Some x) = refl
 
 pair_next : (names counts : List ℕ) (k : ℕ) → k < length names → length counts ≡ length names
-  → paired (drop k names) (drop k counts) ≡ record { name = get_or names k 0; count = get_or counts k 0 } ∷ paired (drop (k + 1) names) (drop (k + 1) counts)
+    → paired (drop k names) (drop k counts) ≡ record { name = get_or names k 0; count = get_or counts k 0 } ∷ paired (drop (k + 1) names) (drop (k + 1) counts)
 pair_next names counts k h e = let g : k < length counts = omega arith in
-  ap (λ x. paired x (drop k counts)) (drop-cons names k 0 h) ∙ ap (paired (get_or names k 0 ∷ drop (suc k) names)) (drop-cons counts k 0 g) ∙ rw add-one refl
+    ap (λ x. paired x (drop k counts)) (drop-cons names k 0 h) ∙ ap (paired (get_or names k 0 ∷ drop (suc k) names)) (drop-cons counts k 0 g) ∙ rw add-one refl
 
 pub least_step : (names counts : List ℕ) (k limit : ℕ) (least here next z : Option ℕ) → k < length names → length counts ≡ length names
-  → here ≡ cond (nat_lt limit (get_or counts k 0)) (Some (get_or names k 0)) None → next ≡ lesser least here
-  → lesser least (least_above limit (paired (drop k names) (drop k counts))) ≡ z
-  → lesser next (least_above limit (paired (drop (k + 1) names) (drop (k + 1) counts))) ≡ z
+    → here ≡ cond (nat_lt limit (get_or counts k 0)) (Some (get_or names k 0)) None → next ≡ lesser least here
+    → lesser least (least_above limit (paired (drop k names) (drop k counts))) ≡ z
+    → lesser next (least_above limit (paired (drop (k + 1) names) (drop (k + 1) counts))) ≡ z
 least_step names counts k limit least here next z h e a b p =
-  ap (λ x. lesser x (least_above limit (paired (drop (k + 1) names) (drop (k + 1) counts)))) (b ∙ ap (lesser least) a)
-  ∙ lesser_again least (cond (nat_lt limit (get_or counts k 0)) (Some (get_or names k 0)) None) (least_above limit (paired (drop (k + 1) names) (drop (k + 1) counts)))
-  ∙ ap (λ x. lesser least (least_above limit x)) (sym (pair_next names counts k h e)) ∙ p
+    ap (λ x. lesser x (least_above limit (paired (drop (k + 1) names) (drop (k + 1) counts)))) (b ∙ ap (lesser least) a)
+    ∙ lesser_again least (cond (nat_lt limit (get_or counts k 0)) (Some (get_or names k 0)) None) (least_above limit (paired (drop (k + 1) names) (drop (k + 1) counts)))
+    ∙ ap (λ x. lesser least (least_above limit x)) (sym (pair_next names counts k h e)) ∙ p
 
 typed_at : (classes : List ClassRow) (k n : ℕ) (r : ClassRow) → n < length classes → TypedAt k (slice_get classes n) → (get_or classes n r).of < k
 typed_at [] k n r h t = absurd (omega arith)

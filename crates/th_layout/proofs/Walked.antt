@@ -14,7 +14,7 @@ use Rattle.th_views.specs.Graph.{trees_by, EachLower}
 use Rattle.th_layout.specs.Walks.{walk_on, walk_all, facts_from}
 
 pub walk_next : (f : ℕ → Tree) (w : Walk) (ss : List ℕ) (i : ℕ) → i < length ss
-  → walk_all w (trees_by f (drop i ss)) ≡ walk_all (walk_on w (topped (f (get_or ss i 0))) (is_up (f (get_or ss i 0))) (span (f (get_or ss i 0)))) (trees_by f (drop (i + 1) ss))
+    → walk_all w (trees_by f (drop i ss)) ≡ walk_all (walk_on w (topped (f (get_or ss i 0))) (is_up (f (get_or ss i 0))) (span (f (get_or ss i 0)))) (trees_by f (drop (i + 1) ss))
 walk_next f w ss i h = ap (λ l. walk_all w (trees_by f l)) (drop-cons ss i 0 h) ∙ rw add-one refl
 
 pub walk_span : (w : Walk) (ss : Trees) → (walk_all w ss).span ≡ w.span + span_in w.turn ss
@@ -46,7 +46,7 @@ drop_past (s ∷ ss) zero h = absurd (omega arith)
 drop_past (s ∷ ss) (suc i) h = drop_past ss i (omega arith)
 
 pub gather_end : (f : ℕ → Tree) (w z : Walk) (i : ℕ) (items ss : List ℕ) → items ≡ ss → length items ≤ i
-  → walk_all w (trees_by f (drop i items)) ≡ walk_all z (trees_by f items) → w ≡ walk_all z (trees_by f ss)
+    → walk_all w (trees_by f (drop i items)) ≡ walk_all z (trees_by f items) → w ≡ walk_all z (trees_by f ss)
 gather_end f w z i items ss e h p = ap (λ l. walk_all w (trees_by f l)) (sym (drop_past items i h)) ∙ p ∙ ap (λ l. walk_all z (trees_by f l)) e
 
 -- rows and facts behind indexes
@@ -67,41 +67,41 @@ facts_at (y ∷ ys) (suc k) f x h g = facts_at ys k f x (omega arith) g
 
 -- one step of the loop
 pub step_on : (f : ℕ → Tree) (w v z : Walk) (y : Facts) (ss : List ℕ) (i : ℕ) → i < length ss
-  → v ≡ walk_on w y.topped y.upward y.span → IsFacts y (f (get_or ss i 0)) → walk_all w (trees_by f (drop i ss)) ≡ z
-  → walk_all v (trees_by f (drop (i + 1) ss)) ≡ z
+    → v ≡ walk_on w y.topped y.upward y.span → IsFacts y (f (get_or ss i 0)) → walk_all w (trees_by f (drop i ss)) ≡ z
+    → walk_all v (trees_by f (drop (i + 1) ss)) ≡ z
 step_on f w v z y ss i h e d p = ap (λ a. walk_all a (trees_by f (drop (i + 1) ss))) (e ∙ same_walk) ∙ sym (walk_next f w ss i h) ∙ p
- where
-  same_walk : walk_on w y.topped y.upward y.span ≡ walk_on w (topped (f (get_or ss i 0))) (is_up (f (get_or ss i 0))) (span (f (get_or ss i 0)))
-  same_walk = let a : y.topped ≡ topped (f (get_or ss i 0)) = d.topped in let b : y.upward ≡ is_up (f (get_or ss i 0)) = d.upward in
-    let k : y.span ≡ span (f (get_or ss i 0)) = d.span in rw (a, b, k) refl
+  where
+    same_walk : walk_on w y.topped y.upward y.span ≡ walk_on w (topped (f (get_or ss i 0))) (is_up (f (get_or ss i 0))) (span (f (get_or ss i 0)))
+    same_walk = let a : y.topped ≡ topped (f (get_or ss i 0)) = d.topped in let b : y.upward ≡ is_up (f (get_or ss i 0)) = d.upward in
+        let k : y.span ≡ span (f (get_or ss i 0)) = d.span in rw (a, b, k) refl
 
 -- with a type's span at most 16, what is gathered of its supertypes is too
 pub walk_few : (f : ℕ → Tree) (n : ℕ) (m : Bool) (own ss : List ℕ) (w : Walk) (i : ℕ) → i < length ss
-  → span (Node n m own (trees_by f ss)) ≤ 64
-  → walk_all w (trees_by f (drop i ss)) ≡ walk_all (record { turn = First; span = 0; topped = false }) (trees_by f ss) → w.span ≤ 64
+    → span (Node n m own (trees_by f ss)) ≤ 64
+    → walk_all w (trees_by f (drop i ss)) ≡ walk_all (record { turn = First; span = 0; topped = false }) (trees_by f ss) → w.span ≤ 64
 walk_few f n m own [] w i h b e = absurd (omega arith)
 walk_few f n m own (s ∷ ss) w i h b e =
-  let p : (walk_all w (trees_by f (drop i (s ∷ ss)))).span ≡ w.span + span_in w.turn (trees_by f (drop i (s ∷ ss))) = walk_span w (trees_by f (drop i (s ∷ ss))) in
-  let q : (walk_all (record { turn = First; span = 0; topped = false }) (trees_by f (s ∷ ss))).span ≡ 0 + span_in First (trees_by f (s ∷ ss)) =
+    let p : (walk_all w (trees_by f (drop i (s ∷ ss)))).span ≡ w.span + span_in w.turn (trees_by f (drop i (s ∷ ss))) = walk_span w (trees_by f (drop i (s ∷ ss))) in
+    let q : (walk_all (record { turn = First; span = 0; topped = false }) (trees_by f (s ∷ ss))).span ≡ 0 + span_in First (trees_by f (s ∷ ss)) =
     walk_span (record { turn = First; span = 0; topped = false }) (trees_by f (s ∷ ss)) in
-  let r : (walk_all w (trees_by f (drop i (s ∷ ss)))).span ≡ (walk_all (record { turn = First; span = 0; topped = false }) (trees_by f (s ∷ ss))).span = ap (λ v. v.span) e in
-  omega arith
+    let r : (walk_all w (trees_by f (drop i (s ∷ ss)))).span ≡ (walk_all (record { turn = First; span = 0; topped = false }) (trees_by f (s ∷ ss))).span = ap (λ v. v.span) e in
+    omega arith
 
 -- the tree of a row
 pub tree_at : (rows : List TypeRow) → Ordered rows → (n : ℕ) → tree_of rows n ≡ Node n (marked_in (slice_get rows n)) (own_in (slice_get rows n)) (above_of rows n)
 tree_at rows o n = tree_is (graph_of rows) (λ k. k) o n
 
 pub facts_is : (n : ℕ) (m : Bool) (own : List ℕ) (f : ℕ → Tree) (ss : List ℕ) (y : Facts) (w : Walk)
-  → w ≡ walk_all (record { turn = First; span = 0; topped = false }) (trees_by f ss)
-  → y.upward ≡ cond m (nat_eq (length ss) 0) false → y.topped ≡ cond y.upward true w.topped → y.span ≡ cond (nat_eq (length ss) 0) 1 w.span
-  → IsFacts y (Node n m own (trees_by f ss))
+    → w ≡ walk_all (record { turn = First; span = 0; topped = false }) (trees_by f ss)
+    → y.upward ≡ cond m (nat_eq (length ss) 0) false → y.topped ≡ cond y.upward true w.topped → y.span ≡ cond (nat_eq (length ss) 0) 1 w.span
+    → IsFacts y (Node n m own (trees_by f ss))
 facts_is n m own f [] y w e u t s = record { span = s; topped = t ∙ (rw (u, ap (λ v. v.topped) e) refl); upward = u }
 facts_is n m own f (x ∷ ss) y w e u t s = let k : nat_eq (suc (length ss)) 0 ≡ false = ne_eqb (suc (length ss)) 0 (omega arith) in
-  let q : w.span ≡ span_in First (trees_by f (x ∷ ss)) = ap (λ v. v.span) e ∙ walk_span (record { turn = First; span = 0; topped = false }) (trees_by f (x ∷ ss)) ∙ omega arith in
-  let r : w.topped ≡ topped_in First (trees_by f (x ∷ ss)) = ap (λ v. v.topped) e ∙ walk_topped (record { turn = First; span = 0; topped = false }) (trees_by f (x ∷ ss)) in
-  let a : y.upward ≡ cond m false false = u ∙ ap (λ b. cond m b false) k in
-  let d : y.span ≡ w.span = s ∙ ap (λ b. cond b 1 w.span) k in
-  record { span = d ∙ q; topped = t ∙ (rw (a, r) refl); upward = a }
+    let q : w.span ≡ span_in First (trees_by f (x ∷ ss)) = ap (λ v. v.span) e ∙ walk_span (record { turn = First; span = 0; topped = false }) (trees_by f (x ∷ ss)) ∙ omega arith in
+    let r : w.topped ≡ topped_in First (trees_by f (x ∷ ss)) = ap (λ v. v.topped) e ∙ walk_topped (record { turn = First; span = 0; topped = false }) (trees_by f (x ∷ ss)) in
+    let a : y.upward ≡ cond m false false = u ∙ ap (λ b. cond m b false) k in
+    let d : y.span ≡ w.span = s ∙ ap (λ b. cond b 1 w.span) k in
+    record { span = d ∙ q; topped = t ∙ (rw (a, r) refl); upward = a }
 
 module _ (rows : List TypeRow) (done : List Facts) (n i : ℕ) (items : List ℕ) (w z : Walk) (d : Facts) (o : Ordered rows) (a : Done rows done) (l : length done ≡ n)
     (e : items ≡ supers_in (slice_get rows n)) (h : i < length items) (p : walk_all w (trees_by (tree_of rows) (drop i items)) ≡ z) where
@@ -110,31 +110,31 @@ module _ (rows : List TypeRow) (done : List Facts) (n i : ℕ) (items : List ℕ
 
   super_facts : IsFacts (get_or done (get_or items i 0) d) (tree_of rows (get_or items i 0))
   super_facts = let k : get_or items i 0 < n = super_lower in let m : get_or items i 0 < length done = omega arith in
-    facts_at done (get_or items i 0) d (tree_of rows (get_or items i 0)) m (a (get_or items i 0) m)
+      facts_at done (get_or items i 0) d (tree_of rows (get_or items i 0)) m (a (get_or items i 0) m)
 
   pub gather_step : (v : Walk) → v ≡ walk_on w (get_or done (get_or items i 0) d).topped (get_or done (get_or items i 0) d).upward (get_or done (get_or items i 0) d).span
-    → walk_all v (trees_by (tree_of rows) (drop (i + 1) items)) ≡ z
+      → walk_all v (trees_by (tree_of rows) (drop (i + 1) items)) ≡ z
   gather_step v q = step_on (tree_of rows) w v z (get_or done (get_or items i 0) d) items i h q super_facts p
 
   pub gather_fits : ((k : ℕ) → span (tree_of rows k) ≤ 64) → z ≡ walk_all (record { turn = First; span = 0; topped = false }) (trees_by (tree_of rows) items)
-    → w.span + (get_or done (get_or items i 0) d).span < 2 ^ 32
+      → w.span + (get_or done (get_or items i 0) d).span < 2 ^ 32
   gather_fits few q =
-    let x : tree_of rows n ≡ Node n (marked_in (slice_get rows n)) (own_in (slice_get rows n)) (trees_by (tree_of rows) items) =
+      let x : tree_of rows n ≡ Node n (marked_in (slice_get rows n)) (own_in (slice_get rows n)) (trees_by (tree_of rows) items) =
       tree_at rows o n ∙ ap (λ s. Node n (marked_in (slice_get rows n)) (own_in (slice_get rows n)) (trees_by (tree_of rows) s)) (sym e) in
-    let b : w.span ≤ 64 = walk_few (tree_of rows) n (marked_in (slice_get rows n)) (own_in (slice_get rows n)) items w i h (subst (λ t. span t ≤ 64) x (few n)) (p ∙ q) in
-    let f : (get_or done (get_or items i 0) d).span ≡ span (tree_of rows (get_or items i 0)) = super_facts.span in
-    let g : span (tree_of rows (get_or items i 0)) ≤ 64 = few (get_or items i 0) in lt_trans_few w.span (get_or done (get_or items i 0) d).span (span (tree_of rows (get_or items i 0))) b f g
-   where
-    lt_trans_few : (x y z : ℕ) → x ≤ 64 → y ≡ z → z ≤ 64 → x + y < 2 ^ 32
-    lt_trans_few x y z b f g = omega arith
+      let b : w.span ≤ 64 = walk_few (tree_of rows) n (marked_in (slice_get rows n)) (own_in (slice_get rows n)) items w i h (subst (λ t. span t ≤ 64) x (few n)) (p ∙ q) in
+      let f : (get_or done (get_or items i 0) d).span ≡ span (tree_of rows (get_or items i 0)) = super_facts.span in
+      let g : span (tree_of rows (get_or items i 0)) ≤ 64 = few (get_or items i 0) in lt_trans_few w.span (get_or done (get_or items i 0) d).span (span (tree_of rows (get_or items i 0))) b f g
+    where
+      lt_trans_few : (x y z : ℕ) → x ≤ 64 → y ≡ z → z ≤ 64 → x + y < 2 ^ 32
+      lt_trans_few x y z b f g = omega arith
 
 pub made_facts : (n : ℕ) (m b : Bool) (own : List ℕ) (f : ℕ → Tree) (ss : List ℕ) (w : Walk)
-  → w ≡ walk_all (record { turn = First; span = 0; topped = false }) (trees_by f ss) → b ≡ nat_eq (length ss) 0
-  → IsFacts (facts_from m b w) (Node n m own (trees_by f ss))
+    → w ≡ walk_all (record { turn = First; span = 0; topped = false }) (trees_by f ss) → b ≡ nat_eq (length ss) 0
+    → IsFacts (facts_from m b w) (Node n m own (trees_by f ss))
 made_facts n m b own f ss w e q = facts_is n m own f ss (facts_from m b w) w e (ap (λ z. cond m z false) q) refl (ap (λ z. cond z 1 w.span) q)
 
 pub push_at : (done : List Facts) (f : Facts) (x : ℕ → Tree) → ((k : ℕ) → k < length done → FactsAt (slice_get done k) (x k)) → IsFacts f (x (length done))
-  → (k : ℕ) → k < length (done ++ f ∷ []) → FactsAt (slice_get (done ++ f ∷ []) k) (x k)
+    → (k : ℕ) → k < length (done ++ f ∷ []) → FactsAt (slice_get (done ++ f ∷ []) k) (x k)
 push_at [] f x a b zero h = b
 push_at [] f x a b (suc k) h = absurd (omega arith)
 push_at (y ∷ ys) f x a b zero h = a zero (omega arith)
@@ -144,14 +144,14 @@ pub done_push : (rows : List TypeRow) (done all : List Facts) (f : Facts) (n : �
 done_push rows done all f n l a b e = subst (Done rows) (sym e) (push_at done f (tree_of rows) a (subst (λ k. IsFacts f (tree_of rows k)) (sym l) b))
 
 pub made_at : (rows : List TypeRow) (n : ℕ) (o : Ordered rows) (r y : TypeRow) (z : Facts) (b : Bool) (w : Walk) (items : List ℕ) → n < length rows → r ≡ get_or rows n y
-  → items ≡ r.supers → b ≡ nat_eq (length items) 0
-  → w ≡ walk_all (record { turn = First; span = 0; topped = false }) (above_of rows n) → z ≡ facts_from r.marked b w → IsFacts z (tree_of rows n)
+    → items ≡ r.supers → b ≡ nat_eq (length items) 0
+    → w ≡ walk_all (record { turn = First; span = 0; topped = false }) (above_of rows n) → z ≡ facts_from r.marked b w → IsFacts z (tree_of rows n)
 made_at rows n o r y z b w items h e i q g m =
-  let s : items ≡ supers_in (slice_get rows n) = i ∙ ap (λ v. v.supers) e ∙ sym (supers_at rows n y h) in
-  let k : r.marked ≡ marked_in (slice_get rows n) = ap (λ v. v.marked) e ∙ sym (marked_at rows n y h) in
-  let f : IsFacts (facts_from (marked_in (slice_get rows n)) b w) (Node n (marked_in (slice_get rows n)) (own_in (slice_get rows n)) (above_of rows n)) =
+    let s : items ≡ supers_in (slice_get rows n) = i ∙ ap (λ v. v.supers) e ∙ sym (supers_at rows n y h) in
+    let k : r.marked ≡ marked_in (slice_get rows n) = ap (λ v. v.marked) e ∙ sym (marked_at rows n y h) in
+    let f : IsFacts (facts_from (marked_in (slice_get rows n)) b w) (Node n (marked_in (slice_get rows n)) (own_in (slice_get rows n)) (above_of rows n)) =
     made_facts n (marked_in (slice_get rows n)) b (own_in (slice_get rows n)) (tree_of rows) (supers_in (slice_get rows n)) w g (q ∙ ap (λ l. nat_eq (length l) 0) s) in
-  subst (λ t. IsFacts z t) (sym (tree_at rows o n)) (subst (λ u. IsFacts u (Node n (marked_in (slice_get rows n)) (own_in (slice_get rows n)) (above_of rows n))) (sym (m ∙ ap (λ a. facts_from a b w) k)) f)
+    subst (λ t. IsFacts z t) (sym (tree_at rows o n)) (subst (λ u. IsFacts u (Node n (marked_in (slice_get rows n)) (own_in (slice_get rows n)) (above_of rows n))) (sym (m ∙ ap (λ a. facts_from a b w) k)) f)
 
 pub push_many : (done all : List Facts) (f : Facts) (n : ℕ) → length done ≡ n → all ≡ done ++ f ∷ [] → length all ≡ n + 1
 push_many done all f n l e = let k : length all ≡ length (done ++ f ∷ []) = ap length e in let m : length (done ++ f ∷ []) ≡ length done + 1 = length-append done (f ∷ []) in omega arith

@@ -46,8 +46,13 @@ paired (n ∷ ns) (c ∷ cs) = record { name = n; count = c } ∷ paired ns cs
 
 -- the counts of a class, from those of the class that it inherits; each stops one above the greatest limit
 abbrev pub tally_on : ClassRow → Tally → ℕ → ℕ → Tally
-tally_on c up s g = record { sum_start = cond c.extends up.sum_start up.sum; sum = min 65 (cond c.extends up.sum_start up.sum + s); down = max g up.down;
-  hidden = min 251 (up.hidden + length c.hidden); filled = min 401 (up.filled + (c.wheres + c.fields)) }
+tally_on c up s g = record {
+  sum_start = cond c.extends up.sum_start up.sum;
+  sum = min 65 (cond c.extends up.sum_start up.sum + s);
+  down = max g up.down;
+  hidden = min 251 (up.hidden + length c.hidden);
+  filled = min 401 (up.filled + (c.wheres + c.fields));
+}
 
 pub record IsTally (t : Tally) (chain : List Link) : Type 0 where
   pub sum_start : t.sum_start ≡ min 65 (sum_start chain)

@@ -5,4 +5,5 @@ pub mod Known
 pub mod Refusals
 pub mod Given
 pub mod Laid
+pub mod Runs
 pub mod Inside

@@ -24,14 +24,22 @@ fn up_to(limit: u32, total: u32, more: u32) -> u32
     requires { total ≤ limit }
     ensures { result ≡ min limit (total + more) }
 {
-    if more < limit - total { total + more } else { limit }
+    if more < limit - total {
+        total + more
+    } else {
+        limit
+    }
 }
 
 /// A length that stops at a limit.
 fn length_up_to(limit: u32, len: usize) -> u32
     ensures { result ≡ min limit len }
 {
-    if len < limit as usize { len as u32 } else { limit }
+    if len < limit as usize {
+        len as u32
+    } else {
+        limit
+    }
 }
 
 /// What is known of the first declared supertype; 0 where there is none.
@@ -119,18 +127,36 @@ fn tally_of(class: &ClassRow, up: Tally, sum: u32, greatest: u32) -> Tally
 }
 
 /// The counts of the class that is inherited, if there is one.
-fn inherited_tally(types: &[TypeRow], classes: &[ClassRow], inherits: Option<u32>, done: &[Tally]) -> Tally
+fn inherited_tally(
+    types: &[TypeRow],
+    classes: &[ClassRow],
+    inherits: Option<u32>,
+    done: &[Tally],
+) -> Tally
     requires done { Tallied (record { types = types.now; classes = classes.now }) done.now }
     requires before { ForSome inherits (λ d. d < length done.now) }
     ensures { IsTally result (inherited (chain_of (record { types = types.now; classes = classes.now })) inherits) }
 {
     match inherits {
         Some(d) => done[d as usize],
-        None => Tally { sum_start: 0, sum: 0, down: 0, hidden: 0, filled: 0 },
+        None => Tally {
+            sum_start: 0,
+            sum: 0,
+            down: 0,
+            hidden: 0,
+            filled: 0,
+        },
     }
 }
 
-fn tally_at(types: &[TypeRow], classes: &[ClassRow], number: usize, sums: &[u32], most: &[u32], done: &[Tally]) -> Tally
+fn tally_at(
+    types: &[TypeRow],
+    classes: &[ClassRow],
+    number: usize,
+    sums: &[u32],
+    most: &[u32],
+    done: &[Tally],
+) -> Tally
     requires within { number < length classes.now }
     requires before { length done.now ≡ number }
     requires inherited { Inherited classes.now }
@@ -146,7 +172,13 @@ fn tally_at(types: &[TypeRow], classes: &[ClassRow], number: usize, sums: &[u32]
 }
 
 /// The counts of all classes, from the first on.
-pub fn all_tallies(alloc: Global, types: &[TypeRow], classes: &[ClassRow], sums: &[u32], most: &[u32]) -> Result<Vec<Tally>, AllocError>
+pub fn all_tallies(
+    alloc: Global,
+    types: &[TypeRow],
+    classes: &[ClassRow],
+    sums: &[u32],
+    most: &[u32],
+) -> Result<Vec<Tally>, AllocError>
     requires inherited { Inherited classes.now }
     requires typed { Typed (record { types = types.now; classes = classes.now }) }
     requires sums { (length sums.now ≡ length types.now) × Summed types.now sums.now }

@@ -70,8 +70,16 @@ pub fn step(walk: Walk, facts: &Facts) -> Walk
 {
     let merged = merges(walk.turn, facts.upward);
     let topped = walk.topped || tops_there(walk.turn, facts.topped, facts.upward);
-    let span = if merged { walk.span } else { walk.span + facts.span };
-    Walk { turn: next(walk.turn, facts.topped), span, topped }
+    let span = if merged {
+        walk.span
+    } else {
+        walk.span + facts.span
+    };
+    Walk {
+        turn: next(walk.turn, facts.topped),
+        span,
+        topped,
+    }
 }
 
 fn gather(rows: &[TypeRow], number: usize, done: &[Facts]) -> Walk
@@ -83,7 +91,11 @@ fn gather(rows: &[TypeRow], number: usize, done: &[Facts]) -> Walk
     ensures { result ≡ walk_all (record { turn = First; span = 0; topped = false }) (above_of rows.now number) }
 {
     let supers = rows[number].supers.as_slice();
-    let mut walk = Walk { turn: Turn::First, span: 0, topped: false };
+    let mut walk = Walk {
+        turn: Turn::First,
+        span: 0,
+        topped: false,
+    };
     for s in supers {
         walk = step(walk, &done[*s as usize]);
     }
@@ -94,7 +106,11 @@ fn make_facts(marked: bool, bare: bool, walk: Walk) -> Facts
     ensures { result ≡ facts_from marked bare walk }
 {
     let upward = marked && bare;
-    Facts { span: if bare { 1 } else { walk.span }, topped: upward || walk.topped, upward }
+    Facts {
+        span: if bare { 1 } else { walk.span },
+        topped: upward || walk.topped,
+        upward,
+    }
 }
 
 fn facts_of(rows: &[TypeRow], number: usize, done: &[Facts]) -> Facts

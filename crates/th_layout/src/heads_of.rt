@@ -76,13 +76,22 @@ fn add_bodies(into: &mut Vec<Gives>, class: u32, methods: &[u32]) -> Result<(), 
     ensures { OnOk result (into.new.items ≡ into.old.items ++ bodies_from class methods.now) }
 {
     for method in methods {
-        into.push(Gives { method: *method, of: class })?;
+        into.push(Gives {
+            method: *method,
+            of: class,
+        })?;
     }
     Ok(())
 }
 
 /// Adds the bodies of the class that is inherited, if there is one.
-fn add_inherited_bodies(into: &mut Vec<Gives>, types: &[TypeRow], classes: &[ClassRow], inherits: Option<u32>, done: &[Bodies]) -> Result<(), AllocError>
+fn add_inherited_bodies(
+    into: &mut Vec<Gives>,
+    types: &[TypeRow],
+    classes: &[ClassRow],
+    inherits: Option<u32>,
+    done: &[Bodies],
+) -> Result<(), AllocError>
     requires done { BodyLists (record { types = types.now; classes = classes.now }) done.now }
     requires before { ForSome inherits (λ d. d < length done.now) }
     ensures { OnOk result (into.new.items ≡ into.old.items ++ body_list (inherited (chain_of (record { types = types.now; classes = classes.now })) inherits)) }
@@ -93,7 +102,13 @@ fn add_inherited_bodies(into: &mut Vec<Gives>, types: &[TypeRow], classes: &[Cla
     Ok(())
 }
 
-fn bodies_of(alloc: Global, types: &[TypeRow], classes: &[ClassRow], number: usize, done: &[Bodies]) -> Result<Vec<Gives>, AllocError>
+fn bodies_of(
+    alloc: Global,
+    types: &[TypeRow],
+    classes: &[ClassRow],
+    number: usize,
+    done: &[Bodies],
+) -> Result<Vec<Gives>, AllocError>
     requires within { number < length classes.now }
     requires before { length done.now ≡ number }
     requires inherited { Inherited classes.now }
@@ -107,7 +122,11 @@ fn bodies_of(alloc: Global, types: &[TypeRow], classes: &[ClassRow], number: usi
     Ok(list)
 }
 
-fn all_body_lists(alloc: Global, types: &[TypeRow], classes: &[ClassRow]) -> Result<Vec<Bodies>, AllocError>
+fn all_body_lists(
+    alloc: Global,
+    types: &[TypeRow],
+    classes: &[ClassRow],
+) -> Result<Vec<Bodies>, AllocError>
     requires { Inherited classes.now }
     ensures { IfOk result (λ all. (length all.items ≡ length classes.now) × BodyLists (record { types = types.now; classes = classes.now }) all.items) }
 {
@@ -119,7 +138,12 @@ fn all_body_lists(alloc: Global, types: &[TypeRow], classes: &[ClassRow]) -> Res
     Ok(all)
 }
 
-fn body_heads(alloc: Global, types: &[TypeRow], classes: &[ClassRow], lists: &[Bodies]) -> Result<Vec<Heads>, AllocError>
+fn body_heads(
+    alloc: Global,
+    types: &[TypeRow],
+    classes: &[ClassRow],
+    lists: &[Bodies],
+) -> Result<Vec<Heads>, AllocError>
     requires { (length lists.now ≡ length classes.now) × BodyLists (record { types = types.now; classes = classes.now }) lists.now }
     ensures { IfOk result (λ all. (length all.items ≡ length classes.now) × Bodied (record { types = types.now; classes = classes.now }) all.items) }
 {
@@ -132,7 +156,11 @@ fn body_heads(alloc: Global, types: &[TypeRow], classes: &[ClassRow], lists: &[B
 }
 
 /// The classes whose bodies the walk finds, for the methods of all classes.
-pub fn all_bodies(alloc: Global, types: &[TypeRow], classes: &[ClassRow]) -> Result<Vec<Heads>, AllocError>
+pub fn all_bodies(
+    alloc: Global,
+    types: &[TypeRow],
+    classes: &[ClassRow],
+) -> Result<Vec<Heads>, AllocError>
     requires { Inherited classes.now }
     ensures { IfOk result (λ all. (length all.items ≡ length classes.now) × Bodied (record { types = types.now; classes = classes.now }) all.items) }
 {

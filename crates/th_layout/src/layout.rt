@@ -1,16 +1,20 @@
 //! The layout of a program, and its look-ups.
 ghost use Rattle.std.specs.Option.{ForSome};
-ghost use Rattle.std.specs.Prelude.{◌≡◌, ◌≤◌, ◌<◌, ◌^◌, length, MatchResult};
+ghost use Rattle.std.specs.Prelude.{◌≡◌, ◌≤◌, ◌<◌, ◌^◌, length, IfOk, MatchResult};
 ghost use Rattle.th_layout.specs.Known.{Typed};
 ghost use Rattle.th_layout.specs.Refusals.{Accepted, RefusedBy};
+ghost use Rattle.th_layout.specs.Runs.{IsTable, IsTableAnswer};
 ghost use Rattle.th_views.specs.Lookups.{cast_at, cast_of, class_place, field_of, group_at, size_of, slot_of, sum_of, type_place, words_of};
 ghost use Rattle.th_views.specs.Objects.{Sound};
 
 use crate::limits::LayoutError;
-use crate::sides::{ClassSide, Places, Sums, TypeSide, all_places, class_side, sums_within, type_side};
-use std::alloc::Global;
+use crate::sides::{
+    ClassSide, Places, Sums, TypeSide, all_places, class_side, sums_within, type_side,
+};
+use crate::tables::table_at;
+use std::alloc::{AllocError, Global};
 use std::marker::Model;
-use th_views::{ClassRow, TypeRow};
+use th_views::{ClassRow, Slot, TypeRow};
 
 /// The layout of a program. A contract sees the program's types and classes.
 #[derive(Drop)]
@@ -38,17 +42,20 @@ impl Model for Layout {
 impl Layout {
     /// The layout of these types and classes. Each type's supertypes stand before it, and each
     /// inherited class before its heirs.
-    pub fn of_rows(alloc: Global, types: Vec<TypeRow>, classes: Vec<ClassRow>, limit: u32) -> Result<Layout, LayoutError>
+    pub fn of_rows(
+        alloc: Global,
+        types: Vec<TypeRow>,
+        classes: Vec<ClassRow>,
+        limit: u32,
+    ) -> Result<Layout, LayoutError>
         requires limit { limit ≤ 64 }
         requires sound { Sound (record { types = types.items; classes = classes.items }) }
         requires typed { Typed (record { types = types.items; classes = classes.items }) }
         requires few_types { length types.items < 2 ^ 32 }
         requires few_classes { length classes.items < 2 ^ 32 }
-        ensures {
-            MatchResult result
-                (λ l. (l ≡ record { types = types.items; classes = classes.items }) × Accepted limit (record { types = types.items; classes = classes.items }))
-                (λ e. RefusedBy limit (record { types = types.items; classes = classes.items }) e)
-        }
+        ensures { MatchResult result
+            (λ l. (l ≡ record { types = types.items; classes = classes.items }) × Accepted limit (record { types = types.items; classes = classes.items }))
+            (λ e. RefusedBy limit (record { types = types.items; classes = classes.items }) e) }
     {
         let rows: &[TypeRow] = &types;
         let class_rows: &[ClassRow] = &classes;
@@ -56,7 +63,14 @@ impl Layout {
         let places = all_places(alloc, rows, class_rows)?;
         let type_side = type_side(alloc, rows)?;
         let class_side = class_side(alloc, rows, class_rows, &type_side)?;
-        Ok(Layout { types, classes, places, sums, type_side, class_side })
+        Ok(Layout {
+            types,
+            classes,
+            places,
+            sums,
+            type_side,
+            class_side,
+        })
     }
 
     /// The place of the type with a number.
@@ -111,8 +125,14 @@ impl Layout {
         ensures { result ≡ slot_of self.now name method }
     {
         match (self.type_at(name), self.class_at(name)) {
-            (Some(place), _) => self.type_side.offsets[place as usize].bytes.get(&method).copied(),
-            (None, Some(place)) => self.class_side.hidden[place as usize].bytes.get(&method).copied(),
+            (Some(place), _) => self.type_side.offsets[place as usize]
+                .bytes
+                .get(&method)
+                .copied(),
+            (None, Some(place)) => self.class_side.hidden[place as usize]
+                .bytes
+                .get(&method)
+                .copied(),
             (None, None) => None,
         }
     }
@@ -134,7 +154,11 @@ impl Layout {
         let place = self.class_at(class)?;
         let row = &self.classes[place as usize];
         let object = self.class_side.objects[place as usize];
-        if index < row.wheres + row.fields { Some(4 * (1 + object.below + index)) } else { None }
+        if index < row.wheres + row.fields {
+            Some(4 * (1 + object.below + index))
+        } else {
+            None
+        }
     }
 
     /// The distance in bytes from a type's view down to a supertype's or its own, or from a class's
@@ -167,5 +191,40 @@ impl Layout {
             return Some(4 * self.class_side.objects[place as usize].start);
         }
         None
+    }
+
+    /// The slots of the table at a header word of a class, from the lowest offset up; None exactly where
+    /// the number names no class, or its objects have no such header word.
+    pub fn table(
+        &self,
+        alloc: Global,
+        class: u32,
+        word: u32,
+    ) -> Result<Option<Vec<Slot>>, AllocError>
+        ensures { IfOk result (λ o. IsTableAnswer self.now (class_place self.now class) word o) }
+    {
+        let Some(place) = self.class_at(class) else {
+            return Ok(None);
+        };
+        if word >= self.class_side.objects[place as usize].words {
+            return Ok(None);
+        }
+        let slots = self.table_of(alloc, place, word)?;
+        Ok(Some(slots))
+    }
+
+    fn table_of(&self, alloc: Global, place: u32, word: u32) -> Result<Vec<Slot>, AllocError>
+        requires { place < length self.now.classes }
+        ensures { IfOk result (λ v. IsTable self.now place word v.items) }
+    {
+        table_at(
+            alloc,
+            &self.types,
+            &self.classes,
+            &self.type_side,
+            &self.class_side,
+            place as usize,
+            word,
+        )
     }
 }

@@ -11,11 +11,12 @@ mod objects;
 mod seen;
 mod sides;
 mod slots;
+mod tables;
 mod views;
 
 pub use counts::Tally;
+pub use heads::{Facts, Walk};
 pub use layout::Layout;
 pub use limits::LayoutError;
 pub use objects::Object;
-pub use heads::{Facts, Walk};
 pub use views::Spots;

@@ -78,16 +78,32 @@ fn class_fields(alloc: Global, tallies: &[Tally]) -> Result<Vec<u32>, AllocError
 }
 
 /// The least number of a type or class whose count is above a limit.
-fn least_of_both(types: &[u32], type_counts: &[u32], classes: &[u32], class_counts: &[u32], limit: u32) -> Option<u32>
+fn least_of_both(
+    types: &[u32],
+    type_counts: &[u32],
+    classes: &[u32],
+    class_counts: &[u32],
+    limit: u32,
+) -> Option<u32>
     requires types { length type_counts.now ≡ length types.now }
     requires classes { length class_counts.now ≡ length classes.now }
     ensures { result ≡ lesser (least_above limit (paired types.now type_counts.now)) (least_above limit (paired classes.now class_counts.now)) }
 {
-    lesser_of(least_over(types, type_counts, limit), least_over(classes, class_counts, limit))
+    lesser_of(
+        least_over(types, type_counts, limit),
+        least_over(classes, class_counts, limit),
+    )
 }
 
 /// The least number of a type or class with more header words than the limit.
-fn words_over(alloc: Global, types: &[TypeRow], classes: &[ClassRow], sums: &[u32], tallies: &[Tally], limit: u32) -> Result<Option<u32>, AllocError>
+fn words_over(
+    alloc: Global,
+    types: &[TypeRow],
+    classes: &[ClassRow],
+    sums: &[u32],
+    tallies: &[Tally],
+    limit: u32,
+) -> Result<Option<u32>, AllocError>
     requires limit { limit ≤ 64 }
     requires sums { (length sums.now ≡ length types.now) × Summed types.now sums.now }
     requires tallies { (length tallies.now ≡ length classes.now) × Tallied (record { types = types.now; classes = classes.now }) tallies.now }
@@ -100,7 +116,13 @@ fn words_over(alloc: Global, types: &[TypeRow], classes: &[ClassRow], sums: &[u3
 }
 
 /// The least number of a type or class with more than 250 slots of one table, one way.
-fn slots_over(alloc: Global, types: &[TypeRow], classes: &[ClassRow], plain: &[u32], tallies: &[Tally]) -> Result<Option<u32>, AllocError>
+fn slots_over(
+    alloc: Global,
+    types: &[TypeRow],
+    classes: &[ClassRow],
+    plain: &[u32],
+    tallies: &[Tally],
+) -> Result<Option<u32>, AllocError>
     requires plain { (length plain.now ≡ length types.now) × Deep types.now plain.now }
     requires tallies { (length tallies.now ≡ length classes.now) × Tallied (record { types = types.now; classes = classes.now }) tallies.now }
     ensures { IfOk result (λ n. n ≡ least_above 250 (slot_counts (record { types = types.now; classes = classes.now }))) }
@@ -112,7 +134,12 @@ fn slots_over(alloc: Global, types: &[TypeRow], classes: &[ClassRow], plain: &[u
 }
 
 /// The least number of a class with more than 400 fields and where-words.
-fn fields_over(alloc: Global, types: &[TypeRow], classes: &[ClassRow], tallies: &[Tally]) -> Result<Option<u32>, AllocError>
+fn fields_over(
+    alloc: Global,
+    types: &[TypeRow],
+    classes: &[ClassRow],
+    tallies: &[Tally],
+) -> Result<Option<u32>, AllocError>
     requires tallies { (length tallies.now ≡ length classes.now) × Tallied (record { types = types.now; classes = classes.now }) tallies.now }
     ensures { IfOk result (λ n. n ≡ least_above 400 (field_counts (record { types = types.now; classes = classes.now }))) }
 {
@@ -122,15 +149,21 @@ fn fields_over(alloc: Global, types: &[TypeRow], classes: &[ClassRow], tallies: 
 }
 
 /// Judges the limits in their order.
-pub fn judge(alloc: Global, types: &[TypeRow], classes: &[ClassRow], sums: &[u32], plain: &[u32], tallies: &[Tally], limit: u32) -> Result<(), LayoutError>
+pub fn judge(
+    alloc: Global,
+    types: &[TypeRow],
+    classes: &[ClassRow],
+    sums: &[u32],
+    plain: &[u32],
+    tallies: &[Tally],
+    limit: u32,
+) -> Result<(), LayoutError>
     requires limit { limit ≤ 64 }
     requires sums { (length sums.now ≡ length types.now) × Summed types.now sums.now }
     requires plain { (length plain.now ≡ length types.now) × Deep types.now plain.now }
     requires tallies { (length tallies.now ≡ length classes.now) × Tallied (record { types = types.now; classes = classes.now }) tallies.now }
-    ensures {
-        MatchResult result (λ _. Accepted limit (record { types = types.now; classes = classes.now }))
-            (λ e. RefusedBy limit (record { types = types.now; classes = classes.now }) e)
-    }
+    ensures { MatchResult result (λ _. Accepted limit (record { types = types.now; classes = classes.now }))
+        (λ e. RefusedBy limit (record { types = types.now; classes = classes.now }) e) }
 {
     if let Some(number) = words_over(alloc, types, classes, sums, tallies, limit)? {
         return Err(LayoutError::TooManyWords(number));

@@ -39,7 +39,7 @@ pub fn words_by_type(alloc: Global, spots: &[Spot]) -> Result<HashMap<u32, u32>,
 }
 
 /// The offset in bytes of a slot from the middle word of its table: the k-th upward or downward, from 0.
-fn offset_of(upward: bool, k: u32) -> i32
+pub fn offset_of(upward: bool, k: u32) -> i32
     requires { k < 1000 }
     ensures { result ≡ offset (placed upward k) }
 {
@@ -48,7 +48,12 @@ fn offset_of(upward: bool, k: u32) -> i32
 }
 
 /// Adds methods whose slots follow one another, where the map has none of a method yet.
-pub fn add_run(into: &mut HashMap<u32, i32>, methods: &[u32], upward: bool, from: u32) -> Result<(), AllocError>
+pub fn add_run(
+    into: &mut HashMap<u32, i32>,
+    methods: &[u32],
+    upward: bool,
+    from: u32,
+) -> Result<(), AllocError>
     requires { from + length methods.now ≤ 1000 }
     ensures { OnOk result ((q : ℕ) → get nat_eq into.new q ≡ or_else (get nat_eq into.old q) (offset_from upward from methods.now q)) }
 {

@@ -43,18 +43,35 @@ fn object_of(class: &ClassRow, up: Object, span: u32) -> Object
 }
 
 /// The objects of the class that is inherited, if there is one.
-fn inherited_object(types: &[TypeRow], classes: &[ClassRow], inherits: Option<u32>, done: &[Object]) -> Object
+fn inherited_object(
+    types: &[TypeRow],
+    classes: &[ClassRow],
+    inherits: Option<u32>,
+    done: &[Object],
+) -> Object
     requires done { Formed (record { types = types.now; classes = classes.now }) done.now }
     requires before { ForSome inherits (λ d. d < length done.now) }
     ensures { IsObject result (inherited (chain_of (record { types = types.now; classes = classes.now })) inherits) }
 {
     match inherits {
         Some(d) => done[d as usize],
-        None => Object { start: 0, words: 0, wheres: 0, fields: 0, below: 0 },
+        None => Object {
+            start: 0,
+            words: 0,
+            wheres: 0,
+            fields: 0,
+            below: 0,
+        },
     }
 }
 
-fn object_at(types: &[TypeRow], classes: &[ClassRow], number: usize, facts: &[Facts], done: &[Object]) -> Object
+fn object_at(
+    types: &[TypeRow],
+    classes: &[ClassRow],
+    number: usize,
+    facts: &[Facts],
+    done: &[Object],
+) -> Object
     requires within { number < length classes.now }
     requires before { length done.now ≡ number }
     requires inherited { Inherited classes.now }
@@ -71,7 +88,12 @@ fn object_at(types: &[TypeRow], classes: &[ClassRow], number: usize, facts: &[Fa
 }
 
 /// The words of all classes' objects, from the first class on.
-pub fn all_objects(alloc: Global, types: &[TypeRow], classes: &[ClassRow], facts: &[Facts]) -> Result<Vec<Object>, AllocError>
+pub fn all_objects(
+    alloc: Global,
+    types: &[TypeRow],
+    classes: &[ClassRow],
+    facts: &[Facts],
+) -> Result<Vec<Object>, AllocError>
     requires inherited { Inherited classes.now }
     requires typed { Typed (record { types = types.now; classes = classes.now }) }
     requires known { (length facts.now ≡ length types.now) × Done types.now facts.now }
@@ -88,7 +110,13 @@ pub fn all_objects(alloc: Global, types: &[TypeRow], classes: &[ClassRow], facts
 }
 
 /// The hidden methods of the class that is inherited, if there is one.
-fn inherited_names(alloc: Global, types: &[TypeRow], classes: &[ClassRow], inherits: Option<u32>, done: &[NumberList]) -> Result<Vec<u32>, AllocError>
+fn inherited_names(
+    alloc: Global,
+    types: &[TypeRow],
+    classes: &[ClassRow],
+    inherits: Option<u32>,
+    done: &[NumberList],
+) -> Result<Vec<u32>, AllocError>
     requires done { HiddenNames (record { types = types.now; classes = classes.now }) done.now }
     requires before { ForSome inherits (λ d. d < length done.now) }
     ensures { IfOk result (λ list. list.items ≡ hidden (inherited (chain_of (record { types = types.now; classes = classes.now })) inherits)) }
@@ -99,7 +127,13 @@ fn inherited_names(alloc: Global, types: &[TypeRow], classes: &[ClassRow], inher
     }
 }
 
-fn hidden_of(alloc: Global, types: &[TypeRow], classes: &[ClassRow], number: usize, done: &[NumberList]) -> Result<Vec<u32>, AllocError>
+fn hidden_of(
+    alloc: Global,
+    types: &[TypeRow],
+    classes: &[ClassRow],
+    number: usize,
+    done: &[NumberList],
+) -> Result<Vec<u32>, AllocError>
     requires within { number < length classes.now }
     requires before { length done.now ≡ number }
     requires inherited { Inherited classes.now }
@@ -113,7 +147,11 @@ fn hidden_of(alloc: Global, types: &[TypeRow], classes: &[ClassRow], number: usi
 }
 
 /// The hidden methods of all classes, inherited ones first.
-pub fn all_hidden(alloc: Global, types: &[TypeRow], classes: &[ClassRow]) -> Result<Vec<NumberList>, AllocError>
+pub fn all_hidden(
+    alloc: Global,
+    types: &[TypeRow],
+    classes: &[ClassRow],
+) -> Result<Vec<NumberList>, AllocError>
     requires inherited { Inherited classes.now }
     ensures { IfOk result (λ all. (length all.items ≡ length classes.now) × HiddenNames (record { types = types.now; classes = classes.now }) all.items) }
 {

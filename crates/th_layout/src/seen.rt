@@ -18,7 +18,13 @@ use th_type::NumberList;
 use th_views::{ClassRow, Spot, TypeRow};
 
 /// Adds what the inherited class sees, if there is one.
-fn add_inherited(into: &mut Vec<Spot>, types: &[TypeRow], classes: &[ClassRow], inherits: Option<u32>, done: &[Spots]) -> Result<(), AllocError>
+fn add_inherited(
+    into: &mut Vec<Spot>,
+    types: &[TypeRow],
+    classes: &[ClassRow],
+    inherits: Option<u32>,
+    done: &[Spots],
+) -> Result<(), AllocError>
     requires done { Viewed (record { types = types.now; classes = classes.now }) done.now }
     requires before { ForSome inherits (λ d. d < length done.now) }
     ensures { OnOk result (into.new.items ≡ into.old.items ++ object_spots (inherited (chain_of (record { types = types.now; classes = classes.now })) inherits)) }
@@ -29,7 +35,15 @@ fn add_inherited(into: &mut Vec<Spot>, types: &[TypeRow], classes: &[ClassRow], 
     Ok(())
 }
 
-fn seen_of(alloc: Global, types: &[TypeRow], classes: &[ClassRow], number: usize, objects: &[Object], spots: &[Spots], done: &[Spots]) -> Result<Vec<Spot>, AllocError>
+fn seen_of(
+    alloc: Global,
+    types: &[TypeRow],
+    classes: &[ClassRow],
+    number: usize,
+    objects: &[Object],
+    spots: &[Spots],
+    done: &[Spots],
+) -> Result<Vec<Spot>, AllocError>
     requires within { number < length classes.now }
     requires before { length done.now ≡ number }
     requires inherited { Inherited classes.now }
@@ -50,7 +64,13 @@ fn seen_of(alloc: Global, types: &[TypeRow], classes: &[ClassRow], number: usize
 }
 
 /// The types that the objects of all classes see.
-pub fn all_seen(alloc: Global, types: &[TypeRow], classes: &[ClassRow], objects: &[Object], spots: &[Spots]) -> Result<Vec<Spots>, AllocError>
+pub fn all_seen(
+    alloc: Global,
+    types: &[TypeRow],
+    classes: &[ClassRow],
+    objects: &[Object],
+    spots: &[Spots],
+) -> Result<Vec<Spots>, AllocError>
     requires inherited { Inherited classes.now }
     requires typed { Typed (record { types = types.now; classes = classes.now }) }
     requires few { Few types.now }
@@ -67,7 +87,11 @@ pub fn all_seen(alloc: Global, types: &[TypeRow], classes: &[ClassRow], objects:
     Ok(all)
 }
 
-fn hidden_offsets(alloc: Global, names: &[u32], raised: u32) -> Result<HashMap<u32, i32>, AllocError>
+fn hidden_offsets(
+    alloc: Global,
+    names: &[u32],
+    raised: u32,
+) -> Result<HashMap<u32, i32>, AllocError>
     requires { raised + length names.now ≤ 1000 }
     ensures { IfOk result (λ m. (q : ℕ) → get nat_eq m q ≡ offset_from true raised names.now q) }
 {
@@ -77,7 +101,13 @@ fn hidden_offsets(alloc: Global, names: &[u32], raised: u32) -> Result<HashMap<u
 }
 
 /// The offsets of the hidden methods of all classes.
-pub fn all_hidden_offsets(alloc: Global, types: &[TypeRow], classes: &[ClassRow], names: &[NumberList], raised: u32) -> Result<Vec<Offsets>, AllocError>
+pub fn all_hidden_offsets(
+    alloc: Global,
+    types: &[TypeRow],
+    classes: &[ClassRow],
+    names: &[NumberList],
+    raised: u32,
+) -> Result<Vec<Offsets>, AllocError>
     requires names { (length names.now ≡ length classes.now) × HiddenNames (record { types = types.now; classes = classes.now }) names.now }
     requires raised { raised ≡ raised_types types.now }
     requires shallow { Shallow types.now }

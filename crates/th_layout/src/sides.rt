@@ -10,6 +10,7 @@ ghost use Rattle.th_views.specs.Sums.{class_slots};
 
 use crate::counts::{Tally, all_greatest, all_plain, all_tallies};
 use crate::heads::{Facts, all_facts, all_sums};
+use crate::heads_of::{Heads, all_arrivals, all_bodies, all_class_heads, all_type_heads};
 use crate::limits::{LayoutError, class_names, judge, type_names};
 use crate::maps::{Casts, Offsets, all_casts, places};
 use crate::objects::{Object, all_hidden, all_objects};
@@ -18,6 +19,7 @@ use crate::slots::{all_depths, all_offsets, raised_of};
 use crate::views::{Spots, all_spots};
 use std::alloc::{AllocError, Global};
 use std::collections::HashMap;
+use th_type::NumberList;
 use th_views::{ClassRow, TypeRow};
 
 /// The places of types and of classes by their numbers.
@@ -41,6 +43,8 @@ pub struct TypeSide {
     pub spots: Vec<Spots>,
     pub casts: Vec<Casts>,
     pub offsets: Vec<Offsets>,
+    pub depths: Vec<u32>,
+    pub gives: Vec<Heads>,
 }
 
 /// What is known of each class, by its place.
@@ -49,6 +53,12 @@ pub struct ClassSide {
     pub objects: Vec<Object>,
     pub hidden: Vec<Offsets>,
     pub seen: Vec<Spots>,
+    pub names: Vec<NumberList>,
+    /// The greatest number of own methods of an upward type.
+    pub raised: u32,
+    pub gives: Vec<Heads>,
+    pub arrives: Vec<Heads>,
+    pub bodies: Vec<Heads>,
 }
 
 fn type_index(alloc: Global, types: &[TypeRow]) -> Result<HashMap<u32, u32>, AllocError>
@@ -68,7 +78,11 @@ fn class_index(alloc: Global, classes: &[ClassRow]) -> Result<HashMap<u32, u32>,
 }
 
 /// The places of all numbers.
-pub fn all_places(alloc: Global, types: &[TypeRow], classes: &[ClassRow]) -> Result<Places, AllocError>
+pub fn all_places(
+    alloc: Global,
+    types: &[TypeRow],
+    classes: &[ClassRow],
+) -> Result<Places, AllocError>
     requires types { length types.now < 2 ^ 32 }
     requires classes { length classes.now < 2 ^ 32 }
     ensures { IfOk result (λ a. IsPlaces (record { types = types.now; classes = classes.now }) a) }
@@ -79,22 +93,28 @@ pub fn all_places(alloc: Global, types: &[TypeRow], classes: &[ClassRow]) -> Res
 }
 
 /// The sums of types and classes that are within the limits; else which one is not.
-pub fn sums_within(alloc: Global, types: &[TypeRow], classes: &[ClassRow], limit: u32) -> Result<Sums, LayoutError>
+pub fn sums_within(
+    alloc: Global,
+    types: &[TypeRow],
+    classes: &[ClassRow],
+    limit: u32,
+) -> Result<Sums, LayoutError>
     requires limit { limit ≤ 64 }
     requires ordered { Ordered types.now }
     requires inherited { Inherited classes.now }
     requires typed { Typed (record { types = types.now; classes = classes.now }) }
-    ensures {
-        MatchResult result (λ a. IsSums (record { types = types.now; classes = classes.now }) a × Accepted limit (record { types = types.now; classes = classes.now }))
-            (λ e. RefusedBy limit (record { types = types.now; classes = classes.now }) e)
-    }
+    ensures { MatchResult result (λ a. IsSums (record { types = types.now; classes = classes.now }) a × Accepted limit (record { types = types.now; classes = classes.now }))
+        (λ e. RefusedBy limit (record { types = types.now; classes = classes.now }) e) }
 {
     let sums = all_sums(alloc, types)?;
     let plain = all_plain(alloc, types)?;
     let most = all_greatest(alloc, types, &plain)?;
     let tallies = all_tallies(alloc, types, classes, &sums, &most)?;
     judge(alloc, types, classes, &sums, &plain, &tallies, limit)?;
-    Ok(Sums { types: sums, classes: tallies })
+    Ok(Sums {
+        types: sums,
+        classes: tallies,
+    })
 }
 
 /// What is known of the types.
@@ -110,11 +130,24 @@ pub fn type_side(alloc: Global, types: &[TypeRow]) -> Result<TypeSide, AllocErro
     let casts = all_casts(alloc, &spots)?;
     let depths = all_depths(alloc, types, &facts)?;
     let offsets = all_offsets(alloc, types, &spots, &facts, &depths)?;
-    Ok(TypeSide { facts, spots, casts, offsets })
+    let gives = all_type_heads(alloc, types)?;
+    Ok(TypeSide {
+        facts,
+        spots,
+        casts,
+        offsets,
+        depths,
+        gives,
+    })
 }
 
 /// What is known of the classes.
-pub fn class_side(alloc: Global, types: &[TypeRow], classes: &[ClassRow], side: &TypeSide) -> Result<ClassSide, AllocError>
+pub fn class_side(
+    alloc: Global,
+    types: &[TypeRow],
+    classes: &[ClassRow],
+    side: &TypeSide,
+) -> Result<ClassSide, AllocError>
     requires inherited { Inherited classes.now }
     requires typed { Typed (record { types = types.now; classes = classes.now }) }
     requires side { IsTypeSide types.now side.now }
@@ -127,7 +160,20 @@ pub fn class_side(alloc: Global, types: &[TypeRow], classes: &[ClassRow], side: 
 {
     let objects = all_objects(alloc, types, classes, &side.facts)?;
     let names = all_hidden(alloc, types, classes)?;
-    let hidden = all_hidden_offsets(alloc, types, classes, &names, raised_of(types))?;
+    let raised = raised_of(types);
+    let hidden = all_hidden_offsets(alloc, types, classes, &names, raised)?;
     let seen = all_seen(alloc, types, classes, &objects, &side.spots)?;
-    Ok(ClassSide { objects, hidden, seen })
+    let gives = all_class_heads(alloc, classes)?;
+    let arrives = all_arrivals(alloc, classes)?;
+    let bodies = all_bodies(alloc, types, classes)?;
+    Ok(ClassSide {
+        objects,
+        hidden,
+        seen,
+        names,
+        raised,
+        gives,
+        arrives,
+        bodies,
+    })
 }

@@ -11,7 +11,7 @@ ghost use Rattle.th_views.specs.Tree.{depth};
 
 use crate::counts::first_known;
 use crate::heads::Facts;
-use crate::maps::{add_run, Offsets};
+use crate::maps::{Offsets, add_run};
 use crate::views::Spots;
 use std::alloc::{AllocError, Global};
 use std::collections::HashMap;
@@ -49,7 +49,13 @@ pub fn all_depths(alloc: Global, rows: &[TypeRow], facts: &[Facts]) -> Result<Ve
 }
 
 /// Adds the own methods of a type, where the map has none of a method yet.
-fn add_own(map: &mut HashMap<u32, i32>, rows: &[TypeRow], number: usize, facts: &[Facts], depths: &[u32]) -> Result<(), AllocError>
+fn add_own(
+    map: &mut HashMap<u32, i32>,
+    rows: &[TypeRow],
+    number: usize,
+    facts: &[Facts],
+    depths: &[u32],
+) -> Result<(), AllocError>
     requires within { number < length rows.now }
     requires ordered { Ordered rows.now }
     requires shallow { Shallow rows.now }
@@ -64,7 +70,13 @@ fn add_own(map: &mut HashMap<u32, i32>, rows: &[TypeRow], number: usize, facts: 
 }
 
 /// The offset of each method of a type, in the table of its home: the first type seen that owns it.
-fn offsets_of(alloc: Global, rows: &[TypeRow], seen: &[Spot], facts: &[Facts], depths: &[u32]) -> Result<HashMap<u32, i32>, AllocError>
+fn offsets_of(
+    alloc: Global,
+    rows: &[TypeRow],
+    seen: &[Spot],
+    facts: &[Facts],
+    depths: &[u32],
+) -> Result<HashMap<u32, i32>, AllocError>
     requires within { Within (length rows.now) seen.now }
     requires ordered { Ordered rows.now }
     requires shallow { Shallow rows.now }
@@ -80,7 +92,13 @@ fn offsets_of(alloc: Global, rows: &[TypeRow], seen: &[Spot], facts: &[Facts], d
 }
 
 /// The offsets of the methods of all types.
-pub fn all_offsets(alloc: Global, rows: &[TypeRow], spots: &[Spots], facts: &[Facts], depths: &[u32]) -> Result<Vec<Offsets>, AllocError>
+pub fn all_offsets(
+    alloc: Global,
+    rows: &[TypeRow],
+    spots: &[Spots],
+    facts: &[Facts],
+    depths: &[u32],
+) -> Result<Vec<Offsets>, AllocError>
     requires ordered { Ordered rows.now }
     requires shallow { Shallow rows.now }
     requires known { (length facts.now ≡ length rows.now) × Done rows.now facts.now }

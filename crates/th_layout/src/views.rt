@@ -5,7 +5,7 @@ ghost use Rattle.th_views.specs.Listed.{spots, lowered};
 ghost use Rattle.th_views.specs.Rows.{tree_of, Ordered};
 ghost use Rattle.th_views.specs.Tree.{at, merged_at};
 
-use crate::heads::{merges, step, Facts, Walk};
+use crate::heads::{Facts, Walk, merges, step};
 use std::alloc::{AllocError, Global};
 use th_views::{Spot, Turn, TypeRow};
 
@@ -21,7 +21,10 @@ pub fn lower_onto(into: &mut Vec<Spot>, from: &[Spot], low: u32) -> Result<(), A
     ensures { OnOk result (into.new.items ≡ into.old.items ++ lowered low from.now) }
 {
     for spot in from {
-        into.push(Spot { name: spot.name, word: low + spot.word })?;
+        into.push(Spot {
+            name: spot.name,
+            word: low + spot.word,
+        })?;
     }
     Ok(())
 }
@@ -29,10 +32,20 @@ pub fn lower_onto(into: &mut Vec<Spot>, from: &[Spot], low: u32) -> Result<(), A
 fn low_of(walk: Walk, upward: bool) -> u32
     ensures { result ≡ at (merged_at walk.turn upward) walk.span }
 {
-    if merges(walk.turn, upward) { 0 } else { walk.span }
+    if merges(walk.turn, upward) {
+        0
+    } else {
+        walk.span
+    }
 }
 
-fn spots_of(alloc: Global, rows: &[TypeRow], number: u32, facts: &[Facts], done: &[Spots]) -> Result<Vec<Spot>, AllocError>
+fn spots_of(
+    alloc: Global,
+    rows: &[TypeRow],
+    number: u32,
+    facts: &[Facts],
+    done: &[Spots],
+) -> Result<Vec<Spot>, AllocError>
     requires within { number < length rows.now }
     requires before { length done.now ≡ number }
     requires ordered { Ordered rows.now }
@@ -43,12 +56,23 @@ fn spots_of(alloc: Global, rows: &[TypeRow], number: u32, facts: &[Facts], done:
     ensures { IfOk result (λ list. list.items ≡ spots (tree_of rows.now number)) }
 {
     let mut list = Vec::new(alloc);
-    list.push(Spot { name: number, word: 0 })?;
+    list.push(Spot {
+        name: number,
+        word: 0,
+    })?;
     let supers = rows[number as usize].supers.as_slice();
-    let mut walk = Walk { turn: Turn::First, span: 0, topped: false };
+    let mut walk = Walk {
+        turn: Turn::First,
+        span: 0,
+        topped: false,
+    };
     for s in supers {
         let known = &facts[*s as usize];
-        lower_onto(&mut list, &done[*s as usize].list, low_of(walk, known.upward))?;
+        lower_onto(
+            &mut list,
+            &done[*s as usize].list,
+            low_of(walk, known.upward),
+        )?;
         walk = step(walk, known);
     }
     Ok(list)

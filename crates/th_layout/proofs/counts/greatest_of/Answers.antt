@@ -11,7 +11,8 @@ pub loop-s-preserved : goal.loop-s-preserved
 loop-s-preserved c = record {
   same = c.loop-s.invariant.same;
   sofar = greatest_step c.args.rows.now c.requires.ordered c.args.done.now c.args.number c.loop-s.s-index c.as_slice-supers.result.now c.loop-s.most c.max-most.result _
-    c.requires.before c.requires.done c.loop-s.invariant.same c.loop-s-test.true c.max-most.ensures c.loop-s.invariant.sofar }
+      c.requires.before c.requires.done c.loop-s.invariant.same c.loop-s-test.true c.max-most.ensures c.loop-s.invariant.sofar;
+}
 
 pub returns : goal.returns
 returns c = greatest_end c.args.rows.now c.requires.ordered c.args.number c.loop-s.s-index c.as_slice-supers.result.now c.loop-s.most c.loop-s.invariant.same c.loop-s-test.false c.loop-s.invariant.sofar

@@ -5,5 +5,5 @@ use Rattle.th_layout.proofs.sides.type_index.Goals as goal
 
 pub places-requires : goal.places-requires
 places-requires c =
-  let k : length c.deref.result.now ≡ length (type_numbers c.args.types.now) = ap length (c.deref.ensures.value ∙ c.in_ok-names.ensures) in
-  let m : length (type_numbers c.args.types.now) ≡ length c.args.types.now = type_many c.args.types.now in omega arith
+    let k : length c.deref.result.now ≡ length (type_numbers c.args.types.now) = ap length (c.deref.ensures.value ∙ c.in_ok-names.ensures) in
+    let m : length (type_numbers c.args.types.now) ≡ length c.args.types.now = type_many c.args.types.now in omega arith

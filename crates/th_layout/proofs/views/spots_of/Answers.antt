@@ -15,7 +15,8 @@ pub loop-s-init : goal.loop-s-init
 loop-s-init c = record {
   same = c.as_slice-supers.ensures ∙ sym (supers_at c.args.rows.now c.args.number c.index-rows-number.result c.requires.within);
   sofar = refl;
-  list = list_start c.new-list.result.items c.push.new.self.items _ _ c.new-list.ensures.items c.in_ok-push.ensures.items }
+  list = list_start c.new-list.result.items c.push.new.self.items _ _ c.new-list.ensures.items c.in_ok-push.ensures.items;
+}
 
 pub lower_onto-requires : goal.lower_onto-requires
 lower_onto-requires c = lower_fits c.args.rows.now c.args.facts.now c.args.done.now c.args.number c.loop-s.s-index c.as_slice-supers.result.now c.loop-s.walk _ (record { span = 0; topped = false; upward = false })
@@ -31,12 +32,13 @@ pub loop-s-preserved : goal.loop-s-preserved
 loop-s-preserved c = record {
   same = c.loop-s.invariant.same;
   sofar = walk_step c.args.rows.now c.args.facts.now c.args.done.now c.args.number c.loop-s.s-index c.as_slice-supers.result.now c.loop-s.walk _ (record { span = 0; topped = false; upward = false })
-    c.requires.ordered c.requires.known c.requires.all c.requires.done c.requires.before c.requires.within c.loop-s.invariant.same c.loop-s-test.true c.loop-s.invariant.sofar
-    c.step-walk.result c.step-walk.ensures;
+      c.requires.ordered c.requires.known c.requires.all c.requires.done c.requires.before c.requires.within c.loop-s.invariant.same c.loop-s-test.true c.loop-s.invariant.sofar
+      c.step-walk.result c.step-walk.ensures;
   list = list_step c.args.rows.now c.args.facts.now c.args.done.now c.args.number c.loop-s.s-index c.as_slice-supers.result.now c.loop-s.walk _ (record { span = 0; topped = false; upward = false })
-    c.requires.ordered c.requires.known c.requires.all c.requires.done c.requires.before c.requires.within c.loop-s.invariant.same c.loop-s-test.true c.loop-s.invariant.sofar
-    c.loop-s.list.items c.lower_onto.new.into.items _ c.index-done-s.result c.deref.result.now c.low_of.result c.step-walk.result
-    c.loop-s.invariant.list c.deref.ensures.value c.low_of.ensures c.in_ok-lower_onto.ensures c.step-walk.ensures }
+      c.requires.ordered c.requires.known c.requires.all c.requires.done c.requires.before c.requires.within c.loop-s.invariant.same c.loop-s-test.true c.loop-s.invariant.sofar
+      c.loop-s.list.items c.lower_onto.new.into.items _ c.index-done-s.result c.deref.result.now c.low_of.result c.step-walk.result
+      c.loop-s.invariant.list c.deref.ensures.value c.low_of.ensures c.in_ok-lower_onto.ensures c.step-walk.ensures;
+}
 
 pub returns : goal.returns
 returns c = list_end c.args.rows.now c.args.number c.requires.ordered c.loop-s.walk c.loop-s.s-index c.as_slice-supers.result.now c.loop-s.list.items c.loop-s.invariant.same c.loop-s-test.false c.loop-s.invariant.list

@@ -12,5 +12,5 @@ invariant-loop-s l = record {
   same : l.supers ≡ supers_in (slice_get l.rows l.number);
   sofar : walk_all l.walk (trees_by (tree_of l.rows) (drop l.s-index l.supers)) ≡ walk_all (record { turn = First; span = 0; topped = false }) (trees_by (tree_of l.rows) l.supers);
   list : l.list.items ++ spots_in l.walk.turn l.walk.span (trees_by (tree_of l.rows) (drop l.s-index l.supers))
-    ≡ record { name = l.number; word = 0 } ∷ spots_in First 0 (trees_by (tree_of l.rows) l.supers);
+      ≡ record { name = l.number; word = 0 } ∷ spots_in First 0 (trees_by (tree_of l.rows) l.supers);
 }
