@@ -3,7 +3,5 @@ pub mod Maps
 pub mod Counts
 pub mod Known
 pub mod Refusals
-pub mod Given
 pub mod Laid
-pub mod Runs
 pub mod Inside

@@ -3,7 +3,6 @@
 
 mod counts;
 mod heads;
-mod heads_of;
 mod layout;
 mod limits;
 mod maps;
@@ -11,7 +10,6 @@ mod objects;
 mod seen;
 mod sides;
 mod slots;
-mod tables;
 mod views;
 
 pub use counts::Tally;
