@@ -1,0 +1,13 @@
+pub mod Walked
+pub mod Spotting
+pub mod Summing
+pub mod Depths
+pub mod Tallies
+pub mod Mapped
+pub mod Sited
+pub mod Pushed
+pub mod Forming
+pub mod Judged
+pub mod Seeing
+pub mod Found
+pub mod Keeping

@@ -1,0 +1,20 @@
+//! The object layout: header words, slots, distances, fields and sizes of a program's types and classes.
+#![tactic(auto)]
+
+mod counts;
+mod heads;
+mod layout;
+mod limits;
+mod maps;
+mod objects;
+mod seen;
+mod sides;
+mod slots;
+mod views;
+
+pub use counts::Tally;
+pub use heads::{Facts, Walk};
+pub use layout::Layout;
+pub use limits::LayoutError;
+pub use objects::Object;
+pub use views::Spots;

@@ -1,0 +1,12 @@
+pub mod Views
+pub mod Lists
+pub mod Grown
+pub mod Chains
+pub mod Homes
+pub mod Summed
+pub mod Lawful
+pub mod Objects
+pub mod Tabled
+pub mod Examples
+pub mod Termed
+pub mod Bridged

@@ -1,0 +1,13 @@
+pub mod Tree
+pub mod Listed
+pub mod Graph
+pub mod Chain
+pub mod Rows
+pub mod Sums
+pub mod Home
+pub mod Objects
+pub mod Lookups
+pub mod Contents
+pub mod Laws
+pub mod Terms
+pub mod Bridges
