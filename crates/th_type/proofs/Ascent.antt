@@ -1,5 +1,5 @@
 -- The table of supertypes decides the subtype relation.
-use Rattle.std.proofs.Common.{◌≡◌, ◌∙◌, ℕ, zero, suc, ◌+◌, ◌<◌, ◌≤◌, ◌↔◌, Bool, true, false, not, cond, nat_eq, ◌||◌, List, [], ◌∷◌, ◌++◌, length, map, Option, Some, None, option_map, option_copied, Bor, refl, ap, sym, subst, ◌⊎◌, inl, inr, arith, IsTrue}
+use Rattle.std.proofs.Common.{◌≡◌, ◌∙◌, ℕ, zero, ◌↔◌, Bool, true, false, cond, nat_eq, ◌||◌, List, [], ◌∷◌, length, map, Option, Some, None, refl, ap, sym, subst, ◌⊎◌, inl, inr, arith, IsTrue}
 use Rattle.std.proofs.lemmas.Bool.Decides.{nat_tests}
 use Rattle.std.proofs.lemmas.List.{length-map}
 use Rattle.std.specs.Map.{lookup}
@@ -8,14 +8,14 @@ use Rattle.th_type.specs.declared.place.Failure.{Failure}
 use Rattle.th_type.specs.Lists.{IsIn}
 use Rattle.th_type.specs.Types.{TypeExpr, TypeExprs, int_ty, bool_ty, text_ty, array_ty, named_ty, param_ty, list_of, subst_ty, subst_tys, same_ty}
 use Rattle.th_type.specs.Declarations.{Declaration, DeclaredType, declared_types, find_decl, supers_of, members_in, resolved}
-use Rattle.th_type.specs.Subtypes.{parents, Subtype, Reached}
-use Rattle.th_type.specs.Rules.{IsTangled, WellFormed}
-use Rattle.th_type.specs.Closure.{find_head, left, Climbed}
+use Rattle.th_type.specs.Subtypes.{Subtype, Reached}
+use Rattle.th_type.specs.Rules.{IsTangled}
+use Rattle.th_type.specs.Closure.{find_head, Climbed}
 use Rattle.th_type.specs.Judged.{Judging}
-use Rattle.th_type.specs.Tables.{above_of, up_in, up_of, is_found, is_reached, table_subtype}
-use Rattle.th_type.proofs.Members.{in_map, from_map}
+use Rattle.th_type.specs.Tables.{up_in, up_of, is_found, is_reached, table_subtype}
+use Rattle.th_type.proofs.Members.{in_map}
 use Rattle.th_type.proofs.Same.{same_self, same_equal}
-use Rattle.th_type.specs.Fitting.{Fits, Saturated}
+use Rattle.th_type.specs.Fitting.{Fits}
 use Rattle.th_type.proofs.Subtyping.{subtype_to, subtype_from, subtype_self}
 use Rattle.th_type.proofs.Closure.{head_found, head_none, left_none}
 use Rattle.th_type.proofs.Resolved.{supers_resolved, decl_is}
@@ -71,8 +71,9 @@ is_subtype_is D f up c text_ty b h = self_is up text_ty b (subtype_self D text_t
 is_subtype_is D f up c (array_ty t) b h = self_is up (array_ty t) b (subtype_self D (array_ty t) b refl h)
 is_subtype_is D f up c (param_ty k) b h = self_is up (param_ty k) b (subtype_self D (param_ty k) b refl h)
 is_subtype_is D f up c (named_ty n args) b h = elim (subtype_from D f n args b h) [
-    inl e ↦ self_is up (named_ty n args) b e
-  | inr r ↦ (let i = (c n).heads r.0 ((c n).all r.0 r.1) in or_right (same_ty (named_ty n args) b) (is_reached up (named_ty n args) b) (reached_is D f up c n i.0 args i.1 r.0 r.1 i.2 b r.2)) ]
+  | inl e ↦ self_is up (named_ty n args) b e
+  | inr r ↦ (let i = (c n).heads r.0 ((c n).all r.0 r.1) in or_right (same_ty (named_ty n args) b) (is_reached up (named_ty n args) b) (reached_is D f up c n i.0 args i.1 r.0 r.1 i.2 b r.2))
+]
 
 -- the table decides the subtype relation
 pub table_decides : (D : List DeclaredType) → Fits D → (up : ℕ → List TypeExpr) → Ascends D up → (a b : TypeExpr) (r : Bool) → r ≡ table_subtype up a b → IsTrue r ↔ Subtype D a b

@@ -1,11 +1,11 @@
 -- What is taken into a list of supertypes, and that the list is whole at the end.
-use Rattle.std.proofs.Common.{◌≡◌, ◌≢◌, ◌∙◌, ℕ, zero, suc, ◌+◌, ◌<◌, ◌≤◌, Bool, true, false, nat_eq, List, [], ◌∷◌, ◌++◌, length, map, slice_get, Option, Some, None, refl, ap, sym, subst, ◌⊎◌, inl, inr, arith, if◌then◌else◌, length-append}
+use Rattle.std.proofs.Common.{◌≡◌, ◌≢◌, ◌∙◌, ℕ, zero, suc, ◌+◌, ◌<◌, ◌≤◌, Bool, true, false, nat_eq, List, [], ◌∷◌, ◌++◌, length, map, slice_get, Some, None, refl, ap, sym, subst, ◌⊎◌, inl, inr, arith, if◌then◌else◌, length-append}
 use Rattle.std.proofs.lemmas.List.{length-map}
 use Rattle.std.proofs.lemmas.Bool.Decides.{nat_tests}
 use Rattle.th_type.specs.Lists.{IsIn}
-use Rattle.th_type.specs.Types.{TypeExpr, TypeExprs, int_ty, bool_ty, text_ty, array_ty, named_ty, param_ty, list_of, subst_ty, ty_height}
+use Rattle.th_type.specs.Types.{TypeExpr, TypeExprs, int_ty, bool_ty, text_ty, array_ty, named_ty, param_ty, ty_height}
 use Rattle.th_type.specs.Declarations.{DeclaredType, supers_of}
-use Rattle.th_type.specs.Subtypes.{parents, Climbs, Subtype, Reached, head_of}
+use Rattle.th_type.specs.Subtypes.{parents, Climbs, Reached, head_of}
 use Rattle.th_type.specs.Rules.{HasTwo, IsHigh}
 use Rattle.th_type.specs.Closure.{is_head, find_head, OneEach, one_if_none, left, Distinct, HeadsAmong, Took, Clashes, Climbing, Climbed}
 use Rattle.th_type.proofs.Members.{in_left, in_right, from_append, in_at, at_in, place_in, in_within}
@@ -108,6 +108,7 @@ one_push : (n : ℕ) (args : TypeExprs) (xs : List TypeExpr) → find_head xs n 
 one_push n args xs e o m a b i j = by (from_append (named_ty m a) xs (named_ty n args ∷ []) i) (from_append (named_ty m b) xs (named_ty n args ∷ []) j) where
   is_args : (a : TypeExprs) → named_ty m a ≡ named_ty n args → (m ≡ n) × (a ≡ args)
   is_args a h = (cc, cc)
+
   by : IsIn (named_ty m a) xs ⊎ IsIn (named_ty m a) (named_ty n args ∷ []) → IsIn (named_ty m b) xs ⊎ IsIn (named_ty m b) (named_ty n args ∷ []) → a ≡ b
   by (inl i) (inl j) = o m a b i j
   by (inl i) (inr (inl j)) = absurd (head_none n a xs e (subst (λ k. IsIn (named_ty k a) xs) (is_args b j).0 i))
@@ -222,12 +223,14 @@ closed_step D n xs ys i t c g a k v l e u j = by (nat_eq k i) refl where
       let f : slice_get ys k ≡ Some t = rw s (a.kept i t g) in
       let q : v ≡ t = cc in
       a.all u (subst (λ v. IsIn u (parents D v)) q j)
+
   earlier : k < i → IsIn u ys
   earlier m =
       let w = place_in k xs (let p = c.within in omega (arith, p, m)) in
       let f : slice_get ys k ≡ Some w.0 = a.kept k w.0 w.1 in
       let q : v ≡ w.0 = cc in
       in_kept xs (parents D t) ys a u (c.closed k w.0 m w.1 u (subst (λ v. IsIn u (parents D v)) q j))
+
   by : (b : Bool) → nat_eq k i ≡ b → IsIn u ys
   by true h = lasts (grind (arith, nat_tests))
   by false h = earlier (grind (arith, nat_tests))
@@ -281,10 +284,10 @@ climbed_none D n xs c (inl (t, u, r, q, h, s)) =
     let a = c.heads t (c.all t r) in
     let b = c.heads u (c.all u q) in
     s (same_of t u a.0 b.0 a.1 b.1 a.2 b.2 h (c.all t r) (c.all u q)) where
-  same_of : (t u : TypeExpr) (m o : ℕ) (a b : TypeExprs) → t ≡ named_ty m a → u ≡ named_ty o b → head_of t ≡ head_of u → IsIn t xs → IsIn u xs → t ≡ u
-  same_of t u m o a b e f h i j =
-      let g : Some m ≡ Some o = ap head_of (sym e) ∙ h ∙ ap head_of f in
-      let mo : m ≡ o = cc in
-      let i2 : IsIn (named_ty o a) xs = subst (λ k. IsIn (named_ty k a) xs) mo (subst (λ t. IsIn t xs) e i) in
-      let j2 : IsIn (named_ty o b) xs = subst (λ t. IsIn t xs) f j in
-      e ∙ ap (λ k. named_ty k a) mo ∙ ap (named_ty o) (c.one o a b i2 j2) ∙ sym f
+      same_of : (t u : TypeExpr) (m o : ℕ) (a b : TypeExprs) → t ≡ named_ty m a → u ≡ named_ty o b → head_of t ≡ head_of u → IsIn t xs → IsIn u xs → t ≡ u
+      same_of t u m o a b e f h i j =
+          let g : Some m ≡ Some o = ap head_of (sym e) ∙ h ∙ ap head_of f in
+          let mo : m ≡ o = cc in
+          let i2 : IsIn (named_ty o a) xs = subst (λ k. IsIn (named_ty k a) xs) mo (subst (λ t. IsIn t xs) e i) in
+          let j2 : IsIn (named_ty o b) xs = subst (λ t. IsIn t xs) f j in
+          e ∙ ap (λ k. named_ty k a) mo ∙ ap (named_ty o) (c.one o a b i2 j2) ∙ sym f

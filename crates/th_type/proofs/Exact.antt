@@ -1,9 +1,9 @@
 -- The tests of signatures decide conforming.
-use Rattle.std.proofs.Common.{◌≡◌, ◌∙◌, ℕ, ◌↔◌, Bool, true, false, nat_eq, ◌&&◌, ◌||◌, List, [], ◌∷◌, ◌++◌, Option, Some, None, refl, ap, sym, subst, ◌⊎◌, inl, inr, arith, IsTrue}
+use Rattle.std.proofs.Common.{◌≡◌, ◌∙◌, ℕ, ◌↔◌, Bool, true, false, nat_eq, ◌&&◌, ◌||◌, List, [], ◌∷◌, Option, Some, None, refl, ap, sym, subst, inl, inr, arith, IsTrue}
 use Rattle.std.proofs.lemmas.Bool.Decides.{nat_tests}
-use Rattle.std.specs.List.{list_any, list_all}
-use Rattle.th_type.specs.Lists.{IsIn, AllIn, is_in}
-use Rattle.th_type.specs.Types.{TypeExpr, same_ty, same_tys}
+use Rattle.std.specs.List.{list_any}
+use Rattle.th_type.specs.Lists.{IsIn, AllIn}
+use Rattle.th_type.specs.Types.{TypeExpr, same_tys}
 use Rattle.th_type.specs.Signatures.{Signature}
 use Rattle.th_type.specs.Methods.{ExactlyConforms, SameSignature}
 use Rattle.th_type.specs.Conforming.{all_in, same_gives, same_bool, exactly, same_sig}
@@ -71,8 +71,8 @@ exactly_to s t h =
 pub exactly_from : (s t : Signature) → ExactlyConforms s t → exactly s t ≡ true
 exactly_from s t h =
     both_true (same_bool s.iterator t.iterator) (same_tys s.formals t.formals && (same_gives s.gives t.gives && all_in s.signals t.signals)) (bool_from s.iterator t.iterator h.iterator)
-      (both_true (same_tys s.formals t.formals) (same_gives s.gives t.gives && all_in s.signals t.signals) (subst (λ fs. same_tys s.formals fs ≡ true) h.formals (sames_self s.formals))
-        (both_true (same_gives s.gives t.gives) (all_in s.signals t.signals) (gives_from s.gives t.gives h.gives) (all_in_from s.signals t.signals h.signals)))
+    (both_true (same_tys s.formals t.formals) (same_gives s.gives t.gives && all_in s.signals t.signals) (subst (λ fs. same_tys s.formals fs ≡ true) h.formals (sames_self s.formals))
+    (both_true (same_gives s.gives t.gives) (all_in s.signals t.signals) (gives_from s.gives t.gives h.gives) (all_in_from s.signals t.signals h.signals)))
 
 pub exactly_decides : (s t : Signature) (r : Bool) → r ≡ exactly s t → IsTrue r ↔ ExactlyConforms s t
 exactly_decides s t r e = ((λ h. exactly_to s t (sym e ∙ h)), (λ h. e ∙ exactly_from s t h))

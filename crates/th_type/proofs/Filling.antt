@@ -1,5 +1,5 @@
 -- The table of methods, filled from the lowest types up.
-use Rattle.std.proofs.Common.{◌≡◌, ◌∙◌, ℕ, zero, suc, ◌+◌, ◌<◌, ◌≤◌, Bool, true, false, nat_eq, cond, List, [], ◌∷◌, ◌++◌, length, map, take, get_or, slice_get, Option, Some, None, option_map, is_some, refl, ap, sym, subst, ◌⊎◌, inl, inr, arith, append_assoc, max}
+use Rattle.std.proofs.Common.{◌≡◌, ◌∙◌, ℕ, zero, suc, ◌+◌, ◌<◌, ◌≤◌, Bool, true, false, nat_eq, cond, List, [], ◌∷◌, ◌++◌, length, map, take, get_or, slice_get, Option, Some, None, option_map, is_some, refl, ap, sym, subst, inl, inr, arith, append_assoc, max}
 use Rattle.std.proofs.lemmas.Bool.Decides.{nat_tests}
 use Rattle.std.proofs.lemmas.List.{map-append, take_more}
 use Rattle.std.specs.Map.{lookup}
@@ -13,18 +13,18 @@ use Rattle.th_type.specs.declared.typedef.Supertype.{Supertype}
 use Rattle.th_type.specs.declared.typedef.Written.{Written}
 use Rattle.th_type.specs.declared.typedef.TypeDef.{TypeDef}
 use Rattle.th_type.specs.Lists.{IsIn, or_else, first_some}
-use Rattle.th_type.specs.Types.{TypeExpr, TypeExprs, named_ty, tys_of, list_of}
+use Rattle.th_type.specs.Types.{TypeExpr, named_ty, tys_of, list_of}
 use Rattle.th_type.specs.Signatures.{Signature, sig_of, subst_sig, find_sig}
-use Rattle.th_type.specs.Declarations.{SuperRef, Declaration, DeclaredType, declared_type, declared_types, super_of, meant_of, written_of, named_decl, types_meant, resolved, find_decl, find_type, written_in, supers_of, sigs_of, members_in}
+use Rattle.th_type.specs.Declarations.{SuperRef, Declaration, declared_type, declared_types, super_of, meant_of, written_of, named_decl, types_meant, resolved, find_decl, written_in, supers_of, sigs_of, members_in}
 use Rattle.th_type.specs.Methods.{applied, method_up, method_of}
 use Rattle.th_type.specs.Rules.{WellFormed}
 use Rattle.th_type.specs.Judged.{Ascended}
 use Rattle.th_type.specs.Tables.{above_of, up_in, up_of}
 use Rattle.th_type.specs.MethodTables.{Rising, Merged, sigs_in, methods_in, method_in, Joined, Settled, Put, Filling, MethodsRight, written_sigs}
-use Rattle.th_type.proofs.Members.{in_map, in_left, in_right, from_append, at_in}
+use Rattle.th_type.proofs.Members.{in_map, from_append}
 use Rattle.th_type.proofs.MethodLists.{or_assoc, find_subst}
 use Rattle.th_type.proofs.Resolved.{type_found, supers_resolved, decl_there, decl_is, name_among, heads_among}
-use Rattle.th_type.proofs.Ascent.{look_in, absent_supers}
+use Rattle.th_type.proofs.Ascent.{absent_supers}
 use Rattle.th_type.proofs.Judging.{look_push, take_next}
 use Rattle.th_type.proofs.Ranks.{rank_less, rank_bound}
 
@@ -77,11 +77,11 @@ append_none (x ∷ xs) = ap (λ ys. x ∷ ys) (append_none xs)
 pub joined_more : (es : List (ℕ × Vec Sig)) (ms : List Supertype) (i : ℕ) (d : Supertype) (xs ys zs : List Signature) → i < length ms → d ≡ get_or ms i d → Joined es xs (resolved (map super_of (take i ms))) ys → Joined es ys (types_meant (meant_of d.meaning)) zs → Joined es xs (resolved (map super_of (take (i + 1) ms))) zs
 joined_more es ms i d xs ys zs h e a b =
     let g : resolved (map super_of (take (i + 1) ms)) ≡ resolved (map super_of (take i ms)) ++ types_meant (meant_of d.meaning) =
-          ap (λ ts. resolved (map super_of ts)) (take_more ms i d h)
-        ∙ ap resolved (map-append super_of (take i ms) (get_or ms i d ∷ []))
-        ∙ resolved_append (map super_of (take i ms)) (super_of (get_or ms i d) ∷ [])
-        ∙ ap (λ ts. resolved (map super_of (take i ms)) ++ ts) (append_none (types_meant (meant_of (get_or ms i d).meaning)))
-        ∙ ap (λ (s : Supertype). resolved (map super_of (take i ms)) ++ types_meant (meant_of s.meaning)) (sym e) in
+    ap (λ ts. resolved (map super_of ts)) (take_more ms i d h)
+    ∙ ap resolved (map-append super_of (take i ms) (get_or ms i d ∷ []))
+    ∙ resolved_append (map super_of (take i ms)) (super_of (get_or ms i d) ∷ [])
+    ∙ ap (λ ts. resolved (map super_of (take i ms)) ++ ts) (append_none (types_meant (meant_of (get_or ms i d).meaning)))
+    ∙ ap (λ (s : Supertype). resolved (map super_of (take i ms)) ++ types_meant (meant_of s.meaning)) (sym e) in
     subst (λ ts. Joined es xs ts zs) (sym g) (joined_then es xs ys zs (resolved (map super_of (take i ms))) (types_meant (meant_of d.meaning)) a b)
 
 pub first_same : {A B : Type 0} (f g : A → Option B) (xs : List A) → ((x : A) → IsIn x xs → f x ≡ g x) → first_some f xs ≡ first_some g xs
@@ -128,9 +128,9 @@ module _ (ds : List Declaration) (w : WellFormed ds) (up : ℕ → List TypeExpr
       let here = f.lower q.0 q.3 (omega (arith, less, e)) in
       let same = found_same q.0 (lookup (nat_eq q.0) es) refl here (omega (arith, less, e, l)) in
       rw q.2 (ap (option_map (subst_sig (list_of q.1))) same) where
-    found_same : (s : ℕ) (o : Option (Vec Sig)) → lookup (nat_eq s) es ≡ o → (lookup (nat_eq s) es ≡ None → ⊥) → length (up s) < k → find_sig (methods_in es s) m ≡ method_up k (declared_types ds) s m
-    found_same s None e h l = absurd (h e)
-    found_same s (Some v) e h l = ap (λ o. find_sig (sigs_in o) m) e ∙ (f.settled s v e).finds k m l
+        found_same : (s : ℕ) (o : Option (Vec Sig)) → lookup (nat_eq s) es ≡ o → (lookup (nat_eq s) es ≡ None → ⊥) → length (up s) < k → find_sig (methods_in es s) m ≡ method_up k (declared_types ds) s m
+        found_same s None e h l = absurd (h e)
+        found_same s (Some v) e h l = ap (λ o. find_sig (sigs_in o) m) e ∙ (f.settled s v e).finds k m l
 
   settled_new : (es : List (ℕ × Vec Sig)) (ps : List Declaration) (r : ℕ) (d : Declaration) (zs : List Signature) → Filling (declared_types ds) up es r ps → IsIn d ds → length (up d.name) ≡ r → Joined es (map (λ w. w.sig) d.methods) (resolved d.supertypes) zs → Settled (declared_types ds) up d.name zs
   settled_new es ps r d zs f i e j = record {
@@ -140,32 +140,35 @@ module _ (ds : List Declaration) (w : WellFormed ds) (up : ℕ → List TypeExpr
   } where
     there : find_decl ds d.name ≡ Some d
     there = decl_there d ds w.differ i
+
     finds_at : (k m : ℕ) → length (up d.name) < k → find_sig zs m ≡ method_up k (declared_types ds) d.name m
     finds_at zero m l = absurd (omega (arith, l))
     finds_at (suc k) m l =
         let s = find_supers d.name d ds there in
         let c : first_some (applied (method_in es) m) (supers_of (declared_types ds) d.name) ≡ first_some (applied (method_up k (declared_types ds)) m) (supers_of (declared_types ds) d.name) =
-              first_same (applied (method_in es) m) (applied (method_up k (declared_types ds)) m) (supers_of (declared_types ds) d.name) (super_same es ps r k m d f i e (omega (arith, l, e))) in
+        first_same (applied (method_in es) m) (applied (method_up k (declared_types ds)) m) (supers_of (declared_types ds) d.name) (super_same es ps r k m d f i e (omega (arith, l, e))) in
         j.finds m
-      ∙ ap (λ ss. or_else (find_sig ss m) (first_some (applied (method_in es) m) (resolved d.supertypes))) (sym (find_written d.name d ds there))
-      ∙ ap (λ ts. or_else (find_sig (sigs_of (declared_types ds) d.name) m) (first_some (applied (method_in es) m) ts)) (sym s)
-      ∙ ap (or_else (find_sig (sigs_of (declared_types ds) d.name) m)) c
+        ∙ ap (λ ss. or_else (find_sig ss m) (first_some (applied (method_in es) m) (resolved d.supertypes))) (sym (find_written d.name d ds there))
+        ∙ ap (λ ts. or_else (find_sig (sigs_of (declared_types ds) d.name) m) (first_some (applied (method_in es) m) ts)) (sym s)
+        ∙ ap (or_else (find_sig (sigs_of (declared_types ds) d.name) m)) c
 
   equal_more : (es : List (ℕ × Vec Sig)) (ps : List Declaration) (r : ℕ) (d : Declaration) → Filling (declared_types ds) up es r ps → (length (up d.name) ≡ r → lookup (nat_eq d.name) es ≡ None → ⊥) → Filling (declared_types ds) up es r (ps ++ d ∷ [])
   equal_more es ps r d f h = record {
     settled = f.settled;
     lower = f.lower;
     equal = λ n i e l. elim (from_append n (map (λ d. d.name) ps) (d.name ∷ []) (subst (λ ns. IsIn n ns) (map-append (λ d. d.name) ps (d ∷ [])) i)) [
-        inl j ↦ f.equal n j e l
-      | inr j ↦ elim j [ inl q ↦ h (subst (λ n. length (up n) ≡ r) q e) (subst (λ n. lookup (nat_eq n) es ≡ None) q l) | inr z ↦ absurd z ] ];
+      | inl j ↦ f.equal n j e l
+      | inr j ↦ elim j [ inl q ↦ h (subst (λ n. length (up n) ≡ r) q e) (subst (λ n. lookup (nat_eq n) es ≡ None) q l) | inr z ↦ absurd z ]
+    ];
   }
 
   filling_put : (es fs : List (ℕ × Vec Sig)) (ps : List Declaration) (r : ℕ) (d : Declaration) (v : Vec Sig) → Filling (declared_types ds) up es r ps → IsIn d ds → length (up d.name) ≡ r → fs ≡ es ++ (d.name, v) ∷ [] → Joined es (map (λ w. w.sig) d.methods) (resolved d.supertypes) (map sig_of v.items) → Filling (declared_types ds) up fs r (ps ++ d ∷ [])
   filling_put es fs ps r d v f i e g j =
       equal_more fs ps r d (subst (λ fs. Filling (declared_types ds) up fs r ps) (sym g) (record {
         settled = λ n u l. elim (look_push n d.name v u es l) [
-            inl q ↦ f.settled n u q
-          | inr q ↦ subst (λ n. Settled (declared_types ds) up n (map sig_of u.items)) (sym q.0) (subst (λ (u : Vec Sig). Settled (declared_types ds) up d.name (map sig_of u.items)) (sym q.1) (settled_new es ps r d (map sig_of v.items) f i e j)) ];
+          | inl q ↦ f.settled n u q
+          | inr q ↦ subst (λ n. Settled (declared_types ds) up n (map sig_of u.items)) (sym q.0) (subst (λ (u : Vec Sig). Settled (declared_types ds) up d.name (map sig_of u.items)) (sym q.1) (settled_new es ps r d (map sig_of v.items) f i e j))
+        ];
         lower = λ n k l q. f.lower n k l (look_more n d.name v es q);
         equal = λ n k l q. f.equal n k l (look_more n d.name v es q);
       })) (λ q l. look_last d.name v es (subst (λ fs. lookup (nat_eq d.name) fs ≡ None) g l))
@@ -201,11 +204,11 @@ module _ (ds : List Declaration) (w : WellFormed ds) (up : ℕ → List TypeExpr
   no_method (suc k) n m h =
       let g : IsIn n (map (λ d. d.name) ds) → ⊥ = λ i. h (names_from ds n i) in
       rw (no_sigs n g, absent_supers n ds g) refl where
-    no_sigs : (n : ℕ) → (IsIn n (map (λ d. d.name) ds) → ⊥) → sigs_of (declared_types ds) n ≡ []
-    no_sigs n g = ap written_in (type_found n ds ∙ ap (option_map declared_type) (by (find_decl ds n) refl)) where
-      by : (o : Option Declaration) → find_decl ds n ≡ o → find_decl ds n ≡ None
-      by None e = e
-      by (Some d) e = let p = decl_is n d ds e in absurd (g (subst (λ k. IsIn k (map (λ d. d.name) ds)) p.1 (in_map (λ d. d.name) d ds p.0)))
+        no_sigs : (n : ℕ) → (IsIn n (map (λ d. d.name) ds) → ⊥) → sigs_of (declared_types ds) n ≡ []
+        no_sigs n g = ap written_in (type_found n ds ∙ ap (option_map declared_type) (by (find_decl ds n) refl)) where
+          by : (o : Option Declaration) → find_decl ds n ≡ o → find_decl ds n ≡ None
+          by None e = e
+          by (Some d) e = let p = decl_is n d ds e in absurd (g (subst (λ k. IsIn k (map (λ d. d.name) ds)) p.1 (in_map (λ d. d.name) d ds p.0)))
 
   -- at the end the table is right
   pub filling_done : (es : List (ℕ × Vec Sig)) (r : ℕ) → ((n : ℕ) → length (up n) < r) → Filling (declared_types ds) up es r [] → MethodsRight (declared_types ds) up es
@@ -217,9 +220,11 @@ module _ (ds : List Declaration) (w : WellFormed ds) (up : ℕ → List TypeExpr
     rising_at : (n : ℕ) (o : Option (Vec Sig)) → lookup (nat_eq n) es ≡ o → Rising (sigs_in o)
     rising_at n None e = tt
     rising_at n (Some v) e = (f.settled n v e).rising
+
     stable_at : (n m k : ℕ) → length (up n) < k → (o : Option (Vec Sig)) → lookup (nat_eq n) es ≡ o → find_sig (sigs_in o) m ≡ method_up k (declared_types ds) n m
     stable_at n m k l None e = sym (no_method k n m (λ i. f.lower n i (h n) e))
     stable_at n m k l (Some v) e = (f.settled n v e).finds k m l
+
     finds_at : (n m : ℕ) (o : Option (Vec Sig)) → lookup (nat_eq n) es ≡ o → find_sig (sigs_in o) m ≡ method_of (declared_types ds) n m
     finds_at n m None e = sym (no_method (length (declared_types ds)) n m (λ i. f.lower n i (h n) e))
     finds_at n m (Some v) e = let i = (f.settled n v e).named in (f.settled n v e).finds (length (declared_types ds)) m (rank_bound ds w up a n (names_to ds n i) i)
@@ -240,8 +245,9 @@ highest_bound es h b n = by (lookup (nat_eq n) es) refl where
 
 pub highest_more : (es : List (ℕ × Above)) (k h : ℕ) (d : ℕ × Above) (l : ℕ) → slice_get es k ≡ Some d → l ≡ length (above_of d.1) → ((e : ℕ × Above) → IsIn e (take k es) → length (above_of e.1) ≤ h) → (e : ℕ × Above) → IsIn e (take (k + 1) es) → length (above_of e.1) ≤ max h l
 highest_more es k h d l g q b e i = elim (from_append e (take k es) (d ∷ []) (subst (λ xs. IsIn e xs) (take_next es k d g) i)) [
-    inl j ↦ (let p = b e j in grind (arith, p))
-  | inr j ↦ elim j [ inl s ↦ (let p : length (above_of e.1) ≡ l = ap (λ (x : ℕ × Above). length (above_of x.1)) s ∙ sym q in grind (arith, p)) | inr z ↦ absurd z ] ]
+  | inl j ↦ (let p = b e j in grind (arith, p))
+  | inr j ↦ elim j [ inl s ↦ (let p : length (above_of e.1) ≡ l = ap (λ (x : ℕ × Above). length (above_of x.1)) s ∙ sym q in grind (arith, p)) | inr z ↦ absurd z ]
+]
 
 pub written_same : (ws : List Written) → written_sigs ws ≡ map (λ w. w.sig) (map written_of ws)
 written_same [] = refl

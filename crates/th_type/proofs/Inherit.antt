@@ -1,29 +1,28 @@
 -- The tests over tables decide the rule on inherited methods.
-use Rattle.std.proofs.Common.{◌≡◌, ◌∙◌, ℕ, zero, suc, ◌+◌, ◌<◌, ◌≤◌, ◌↔◌, Bool, true, false, not, nat_eq, ◌&&◌, ◌||◌, List, [], ◌∷◌, ◌++◌, length, map, Option, Some, None, option_map, refl, ap, sym, subst, ◌⊎◌, inl, inr, arith, IsTrue, if◌then◌else◌}
+use Rattle.std.proofs.Common.{◌≡◌, ◌∙◌, ℕ, suc, Bool, true, false, not, nat_eq, ◌&&◌, ◌||◌, List, [], ◌∷◌, length, map, Option, Some, None, option_map, refl, ap, sym, subst, ◌⊎◌, inl, inr, arith, if◌then◌else◌}
 use Rattle.std.proofs.lemmas.Bool.Decides.{nat_tests}
 use Rattle.std.specs.List.{list_any, list_all}
 use Rattle.std.specs.Global.{Vec}
 use Rattle.th_type.specs.declared.place.Failure.{Failure}
 use Rattle.th_type.specs.declared.sig.Sig.{Sig}
-use Rattle.th_type.specs.Lists.{IsIn, AllIn, is_in, or_else, first_some}
-use Rattle.th_type.specs.Types.{TypeExpr, TypeExprs, int_ty, bool_ty, text_ty, array_ty, named_ty, param_ty, list_of, same_ty, same_tys}
+use Rattle.th_type.specs.Lists.{IsIn, is_in, or_else, first_some}
+use Rattle.th_type.specs.Types.{TypeExpr, TypeExprs, int_ty, bool_ty, text_ty, array_ty, named_ty, param_ty, list_of, same_tys}
 use Rattle.th_type.specs.Signatures.{Signature, subst_sig, find_sig}
-use Rattle.th_type.specs.Declarations.{WrittenSig, Declaration, DeclaredType, declared_type, declared_types, resolved, supers_of, sigs_of, find_decl}
+use Rattle.th_type.specs.Declarations.{WrittenSig, Declaration, DeclaredType, declared_type, declared_types, resolved, supers_of, sigs_of}
 use Rattle.th_type.specs.Failures.{place, failure, lowest, unless, IsLeastOf}
-use Rattle.th_type.specs.Subtypes.{Subtype, Reached}
-use Rattle.th_type.specs.Methods.{applied, method_up, method_of, method_at, ResultFits, GivesFits, IsParam, GivesParam, ResultIsParam, Conforms, SameSignature}
+use Rattle.th_type.specs.Subtypes.{Reached}
+use Rattle.th_type.specs.Methods.{applied, method_up, method_at, GivesFits, IsParam, GivesParam, ResultIsParam, Conforms, SameSignature}
 use Rattle.th_type.specs.Rules.{WellFormed, Misfits, Differs, FailsMethods, MethodsFail}
-use Rattle.th_type.specs.Closure.{Climbed}
 use Rattle.th_type.specs.Judged.{Ascended}
 use Rattle.th_type.specs.Tables.{table_subtype}
-use Rattle.th_type.specs.Conforming.{all_in, same_gives, same_bool, exactly, same_sig, is_param_ty}
+use Rattle.th_type.specs.Conforming.{all_in, same_gives, same_bool, same_sig, is_param_ty}
 use Rattle.th_type.specs.MethodTables.{Rising, methods_in, method_in, MethodsRight}
-use Rattle.th_type.specs.Tests.{param_given, gives_param, param_at, is_fixed, gives_within, gives_fit, conforms_test, fits_found, fits_type, fits_all, written_failures, agrees_found, agrees_sig, agrees_type, agrees_all, def_failures, all_failures}
-use Rattle.th_type.proofs.Members.{in_map, from_map, in_left, in_right, from_append, is_in_true, in_is_true}
+use Rattle.th_type.specs.Tests.{param_given, gives_param, param_at, is_fixed, gives_fit, conforms_test, fits_found, fits_type, fits_all, written_failures, agrees_found, agrees_sig, agrees_type, agrees_all, def_failures, all_failures}
+use Rattle.th_type.proofs.Members.{in_map, from_map, in_left, in_right, from_append}
 use Rattle.th_type.proofs.Same.{both, same_equal, same_self, sames_equal, sames_self}
 use Rattle.th_type.proofs.Exact.{both_true, all_in_to, all_in_from, gives_to, gives_from, bool_to, bool_from, same_to, same_from}
 use Rattle.th_type.proofs.Least.{least_alike, least_lowest}
-use Rattle.th_type.proofs.Ascent.{Ascends, table_decides}
+use Rattle.th_type.proofs.Ascent.{table_decides}
 use Rattle.th_type.proofs.Resolved.{well_formed_fits, decl_there, heads_among}
 use Rattle.th_type.proofs.Ranks.{rank_less}
 use Rattle.th_type.proofs.Filling.{find_written, find_supers, first_same, names_to}
@@ -169,16 +168,17 @@ module _ (ds : List Declaration) (w : WellFormed ds) (up : ℕ → List TypeExpr
 
   fixed_to : (n m : ℕ) → is_fixed up (method_in es) n m ≡ true → ResultIsParam (declared_types ds) n m
   fixed_to n m h = elim (is_or (gives_param (method_in es n m)) (list_any (param_at (method_in es) m) (up n)) h) [
-      inl e ↦ inl (subst (λ o. GivesParam o) (r.finds n m) (gives_param_to (method_in es n m) e))
+    | inl e ↦ inl (subst (λ o. GivesParam o) (r.finds n m) (gives_param_to (method_in es n m) e))
     | inr e ↦ (let p = any_to (param_at (method_in es) m) (up n) e in
-               let q = param_at_to (method_in es) m p.0 p.2 in
-               inr (q.0, q.1, subst (λ t. Reached (declared_types ds) n t) q.2 ((a.climbed n).sound p.0 p.1), subst (λ o. GivesParam o) (r.finds q.0 m) q.3)) ]
+        let q = param_at_to (method_in es) m p.0 p.2 in
+        inr (q.0, q.1, subst (λ t. Reached (declared_types ds) n t) q.2 ((a.climbed n).sound p.0 p.1), subst (λ o. GivesParam o) (r.finds q.0 m) q.3))
+  ]
 
   fixed_from : (n m : ℕ) → ResultIsParam (declared_types ds) n m → is_fixed up (method_in es) n m ≡ true
   fixed_from n m (inl g) = or_left (gives_param (method_in es n m)) (list_any (param_at (method_in es) m) (up n)) (gives_param_from (method_in es n m) (subst (λ o. GivesParam o) (sym (r.finds n m)) g))
   fixed_from n m (inr (b, args, q, g)) =
       or_right (gives_param (method_in es n m)) (list_any (param_at (method_in es) m) (up n))
-        (any_from (param_at (method_in es) m) (up n) (named_ty b args) ((a.climbed n).all (named_ty b args) q) (gives_param_from (method_in es b m) (subst (λ o. GivesParam o) (sym (r.finds b m)) g)))
+      (any_from (param_at (method_in es) m) (up n) (named_ty b args) ((a.climbed n).all (named_ty b args) q) (gives_param_from (method_in es b m) (subst (λ o. GivesParam o) (sym (r.finds b m)) g)))
 
   fit_to : (it : Bool) (s t : Option TypeExpr) → gives_fit up it s t ≡ true → GivesFits (declared_types ds) it s t
   fit_to true None None h = refl
@@ -217,10 +217,10 @@ module _ (ds : List Declaration) (w : WellFormed ds) (up : ℕ → List TypeExpr
   conforms_from n s t c =
       let D4 = not (is_fixed up (method_in es) n t.method) || same_gives s.gives t.gives in
       both_true (same_bool s.iterator t.iterator) (same_tys s.formals t.formals && (all_in s.signals t.signals && (gives_fit up s.iterator s.gives t.gives && D4))) (bool_from s.iterator t.iterator c.iterator)
-        (both_true (same_tys s.formals t.formals) (all_in s.signals t.signals && (gives_fit up s.iterator s.gives t.gives && D4)) (subst (λ fs. same_tys s.formals fs ≡ true) c.formals (sames_self s.formals))
-          (both_true (all_in s.signals t.signals) (gives_fit up s.iterator s.gives t.gives && D4) (all_in_from s.signals t.signals c.signals)
-            (both_true (gives_fit up s.iterator s.gives t.gives) D4 (fit_from s.iterator s.gives t.gives c.gives)
-              (not_or_from (is_fixed up (method_in es) n t.method) (same_gives s.gives t.gives) (λ e. gives_from s.gives t.gives (c.fixed (fixed_to n t.method e)))))))
+      (both_true (same_tys s.formals t.formals) (all_in s.signals t.signals && (gives_fit up s.iterator s.gives t.gives && D4)) (subst (λ fs. same_tys s.formals fs ≡ true) c.formals (sames_self s.formals))
+      (both_true (all_in s.signals t.signals) (gives_fit up s.iterator s.gives t.gives && D4) (all_in_from s.signals t.signals c.signals)
+      (both_true (gives_fit up s.iterator s.gives t.gives) D4 (fit_from s.iterator s.gives t.gives c.gives)
+      (not_or_from (is_fixed up (method_in es) n t.method) (same_gives s.gives t.gives) (λ e. gives_from s.gives t.gives (c.fixed (fixed_to n t.method e)))))))
 
   at_is : (n m : ℕ) (args : TypeExprs) → method_at (declared_types ds) (named_ty n args) m ≡ option_map (subst_sig (list_of args)) (method_in es n m)
   at_is n m args = ap (option_map (subst_sig (list_of args))) (sym (r.finds n m))
@@ -252,14 +252,14 @@ module _ (ds : List Declaration) (w : WellFormed ds) (up : ℕ → List TypeExpr
       let there = decl_there d ds w.differ i in
       let k = length (up d.name) in
       let s : first_some (applied (method_up k (declared_types ds)) m) (supers_of (declared_types ds) d.name) ≡ first_some (applied (method_in es) m) (supers_of (declared_types ds) d.name) =
-            first_same (applied (method_up k (declared_types ds)) m) (applied (method_in es) m) (supers_of (declared_types ds) d.name)
-              (λ t j. let q = heads_among ds w d.name t j in
-                      let less = rank_less ds w up a d.name q.0 q.1 (names_to ds q.0 q.3) (subst (λ t. IsIn t (supers_of (declared_types ds) d.name)) q.2 j) in
-                      rw q.2 (ap (option_map (subst_sig (list_of q.1))) (sym (r.stable q.0 m k less)))) in
+      first_same (applied (method_up k (declared_types ds)) m) (applied (method_in es) m) (supers_of (declared_types ds) d.name)
+      (λ t j. let q = heads_among ds w d.name t j in
+      let less = rank_less ds w up a d.name q.0 q.1 (names_to ds q.0 q.3) (subst (λ t. IsIn t (supers_of (declared_types ds) d.name)) q.2 j) in
+      rw q.2 (ap (option_map (subst_sig (list_of q.1))) (sym (r.stable q.0 m k less)))) in
       r.stable d.name m (suc k) (omega arith)
-    ∙ ap (or_else (find_sig (sigs_of (declared_types ds) d.name) m)) s
-    ∙ ap (λ ss. or_else (find_sig ss m) (first_some (applied (method_in es) m) (supers_of (declared_types ds) d.name))) (find_written d.name d ds there)
-    ∙ ap (λ ts. or_else (find_sig (map (λ w. w.sig) d.methods) m) (first_some (applied (method_in es) m) ts)) (find_supers d.name d ds there)
+      ∙ ap (or_else (find_sig (sigs_of (declared_types ds) d.name) m)) s
+      ∙ ap (λ ss. or_else (find_sig ss m) (first_some (applied (method_in es) m) (supers_of (declared_types ds) d.name))) (find_written d.name d ds there)
+      ∙ ap (λ ts. or_else (find_sig (map (λ w. w.sig) d.methods) m) (first_some (applied (method_in es) m) ts)) (find_supers d.name d ds there)
 
   inherited_is : (d : Declaration) (m : ℕ) → IsIn d ds → find_sig (map (λ w. w.sig) d.methods) m ≡ None → method_in es d.name m ≡ first_some (applied (method_in es) m) (resolved d.supertypes)
   inherited_is d m i e = method_fix d m i ∙ ap (λ o. or_else o (first_some (applied (method_in es) m) (resolved d.supertypes))) e
@@ -326,8 +326,9 @@ module _ (ds : List Declaration) (w : WellFormed ds) (up : ℕ → List TypeExpr
   written_to : (d : Declaration) (ws : List WrittenSig) (g : Failure) → IsIn g (written_failures up (method_in es) d ws) → (x : WrittenSig) × IsIn x ws × Misfits (declared_types ds) (resolved d.supertypes) x.sig × (g ≡ failure 8 (place d.place.text x.at))
   written_to d [] g i = absurd i
   written_to d (x ∷ xs) g i = elim (from_append g (unless (fits_all up (method_in es) x.sig (resolved d.supertypes)) 8 (place d.place.text x.at)) (written_failures up (method_in es) d xs) i) [
-      inl j ↦ by (fits_all up (method_in es) x.sig (resolved d.supertypes)) refl j
-    | inr j ↦ (let p = written_to d xs g j in (p.0, inr p.1, p.2, p.3)) ] where
+    | inl j ↦ by (fits_all up (method_in es) x.sig (resolved d.supertypes)) refl j
+    | inr j ↦ (let p = written_to d xs g j in (p.0, inr p.1, p.2, p.3))
+  ] where
     by : (b : Bool) → fits_all up (method_in es) x.sig (resolved d.supertypes) ≡ b → IsIn g (unless b 8 (place d.place.text x.at)) → (y : WrittenSig) × IsIn y (x ∷ xs) × Misfits (declared_types ds) (resolved d.supertypes) y.sig × (g ≡ failure 8 (place d.place.text y.at))
     by true e j = absurd j
     by false e (inl q) = (x, inl refl, misfits_of (resolved d.supertypes) x.sig e, q)
@@ -338,8 +339,10 @@ module _ (ds : List Declaration) (w : WellFormed ds) (up : ℕ → List TypeExpr
   written_from d (y ∷ ys) g x (inl q) m e = in_left g (unless (fits_all up (method_in es) y.sig (resolved d.supertypes)) 8 (place d.place.text y.at)) (written_failures up (method_in es) d ys) (by (fits_all up (method_in es) y.sig (resolved d.supertypes)) refl) where
     m2 : Misfits (declared_types ds) (resolved d.supertypes) y.sig
     m2 = subst (λ (x : WrittenSig). Misfits (declared_types ds) (resolved d.supertypes) x.sig) q m
+
     e2 : g ≡ failure 8 (place d.place.text y.at)
     e2 = subst (λ (x : WrittenSig). g ≡ failure 8 (place d.place.text x.at)) q e
+
     by : (b : Bool) → fits_all up (method_in es) y.sig (resolved d.supertypes) ≡ b → IsIn g (unless b 8 (place d.place.text y.at))
     by true h = absurd (no_misfits (resolved d.supertypes) y.sig h m2)
     by false h = inl e2
@@ -347,8 +350,9 @@ module _ (ds : List Declaration) (w : WellFormed ds) (up : ℕ → List TypeExpr
 
   def_to : (d : Declaration) → IsIn d ds → (g : Failure) → IsIn g (def_failures up es d) → FailsMethods (declared_types ds) d g
   def_to d i g j = elim (from_append g (written_failures up (method_in es) d d.methods) (unless (agrees_all es (map (λ w. w.sig.method) d.methods) (method_in es d.name) (resolved d.supertypes)) 8 d.place) j) [
-      inl k ↦ inl (written_to d d.methods g k)
-    | inr k ↦ inr (by (agrees_all es (map (λ w. w.sig.method) d.methods) (method_in es d.name) (resolved d.supertypes)) refl k) ] where
+    | inl k ↦ inl (written_to d d.methods g k)
+    | inr k ↦ inr (by (agrees_all es (map (λ w. w.sig.method) d.methods) (method_in es d.name) (resolved d.supertypes)) refl k)
+  ] where
     by : (b : Bool) → agrees_all es (map (λ w. w.sig.method) d.methods) (method_in es d.name) (resolved d.supertypes) ≡ b → IsIn g (unless b 8 d.place) → Differs (declared_types ds) (declared_type d) × (g ≡ failure 8 d.place)
     by true e j = absurd j
     by false e (inl q) = (differs_of d i e, q)
@@ -364,8 +368,9 @@ module _ (ds : List Declaration) (w : WellFormed ds) (up : ℕ → List TypeExpr
   all_to : (ps : List Declaration) → ((d : Declaration) → IsIn d ps → IsIn d ds) → (g : Failure) → IsIn g (all_failures up es ps) → (d : Declaration) × IsIn d ps × FailsMethods (declared_types ds) d g
   all_to [] h g i = absurd i
   all_to (p ∷ ps) h g i = elim (from_append g (def_failures up es p) (all_failures up es ps) i) [
-      inl j ↦ (p, inl refl, def_to p (h p (inl refl)) g j)
-    | inr j ↦ (let q = all_to ps (λ d k. h d (inr k)) g j in (q.0, inr q.1, q.2)) ]
+    | inl j ↦ (p, inl refl, def_to p (h p (inl refl)) g j)
+    | inr j ↦ (let q = all_to ps (λ d k. h d (inr k)) g j in (q.0, inr q.1, q.2))
+  ]
 
   all_from : (ps : List Declaration) → ((d : Declaration) → IsIn d ps → IsIn d ds) → (g : Failure) (d : Declaration) → IsIn d ps → FailsMethods (declared_types ds) d g → IsIn g (all_failures up es ps)
   all_from [] h g d i f = absurd i
@@ -376,7 +381,7 @@ module _ (ds : List Declaration) (w : WellFormed ds) (up : ℕ → List TypeExpr
   pub methods_least : (found : Option Failure) → found ≡ lowest None (all_failures up es ds) → IsLeastOf (MethodsFail ds) found
   methods_least found e =
       subst (λ o. IsLeastOf (MethodsFail ds) o) (sym e)
-        (least_alike (λ g. ⊥ ⊎ IsIn g (all_failures up es ds)) (MethodsFail ds) (lowest None (all_failures up es ds))
-          (λ g q. elim q [ inl z ↦ absurd z | inr i ↦ all_to ds (λ d k. k) g i ])
-          (λ g f. inr (all_from ds (λ d k. k) g f.0 f.1 f.2))
-          (least_lowest (λ g. ⊥) None (all_failures up es ds) (λ g z. z)))
+      (least_alike (λ g. ⊥ ⊎ IsIn g (all_failures up es ds)) (MethodsFail ds) (lowest None (all_failures up es ds))
+      (λ g q. elim q [ inl z ↦ absurd z | inr i ↦ all_to ds (λ d k. k) g i ])
+      (λ g f. inr (all_from ds (λ d k. k) g f.0 f.1 f.2))
+      (least_lowest (λ g. ⊥) None (all_failures up es ds) (λ g z. z)))

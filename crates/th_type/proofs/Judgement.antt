@@ -1,5 +1,5 @@
 -- The judgement as a whole.
-use Rattle.std.proofs.Common.{◌≡◌, ◌∙◌, ℕ, List, map, Option, Some, None, refl, ap, sym, subst, inl, inr}
+use Rattle.std.proofs.Common.{◌≡◌, ◌∙◌, ℕ, List, map, Option, Some, None, ap, sym, subst, inl, inr}
 use Rattle.std.specs.Global.{Vec}
 use Rattle.std.specs.Ordering.{nat_cmp}
 use Rattle.std.specs.List.Sorted.{IsSorted, IsPermutation}
@@ -10,7 +10,7 @@ use Rattle.th_type.specs.declared.place.Failure.{Failure}
 use Rattle.th_type.specs.declared.typedef.TypeDef.{TypeDef}
 use Rattle.th_type.specs.Types.{TypeExpr, ty_of}
 use Rattle.th_type.specs.Signatures.{Signature, sig_of}
-use Rattle.th_type.specs.Declarations.{Declaration, DeclaredType, declared_type, declared_types, named_decl, super_of, written_of, resolved}
+use Rattle.th_type.specs.Declarations.{Declaration, DeclaredType, declared_type, declared_types, named_decl, super_of, resolved}
 use Rattle.th_type.specs.Failures.{lowest, IsLeastOf}
 use Rattle.th_type.specs.Rules.{WellFormed, FailsFirst, MethodsFail, IsNamed, NoneFails}
 use Rattle.th_type.specs.Judged.{Judging, Ascended}
@@ -18,7 +18,7 @@ use Rattle.th_type.specs.Tables.{up_of}
 use Rattle.th_type.specs.Tests.{all_failures}
 use Rattle.th_type.specs.MethodTables.{MethodsRight, written_sigs}
 use Rattle.th_type.specs.LatticeRight.{LatticeRight}
-use Rattle.th_type.specs.Rows.{row_of, rows_of}
+use Rattle.th_type.specs.Rows.{row_of}
 use Rattle.th_type.proofs.Ascent.{ascends, untangled}
 use Rattle.th_type.proofs.Resolved.{well_formed_fits}
 use Rattle.th_type.proofs.Inherit.{methods_least}
@@ -55,5 +55,5 @@ declared n k ts ss = record { name = n; params = k; supertypes = ts; written = s
 pub row_is : (n : ℕ) (def : TypeDef) (r : Row) → r.params ≡ def.params → map ty_of r.supertypes.items ≡ resolved (map super_of def.supertypes.items) → map sig_of r.written.items ≡ written_sigs def.methods.items → row_of (n, r) ≡ declared_type (named_decl n def)
 row_is n def r p t s =
     ap (λ k. declared n k (map ty_of r.supertypes.items) (map sig_of r.written.items)) p
-  ∙ ap (λ ts. declared n def.params ts (map sig_of r.written.items)) t
-  ∙ ap (declared n def.params (resolved (map super_of def.supertypes.items))) (s ∙ written_same def.methods.items)
+    ∙ ap (λ ts. declared n def.params ts (map sig_of r.written.items)) t
+    ∙ ap (declared n def.params (resolved (map super_of def.supertypes.items))) (s ∙ written_same def.methods.items)

@@ -1,5 +1,5 @@
 -- The judgement of supertypes.
-use Rattle.std.proofs.Common.{◌≡◌, ◌∙◌, ℕ, zero, suc, ◌+◌, ◌<◌, ◌≤◌, ◌↔◌, Bool, true, false, not, cond, nat_eq, ◌||◌, List, [], ◌∷◌, ◌++◌, length, map, take, drop, get_or, slice_get, Option, Some, None, refl, ap, sym, subst, ◌⊎◌, inl, inr, arith, if◌then◌else◌, append_assoc, IsTrue}
+use Rattle.std.proofs.Common.{◌≡◌, ◌∙◌, ℕ, zero, suc, ◌+◌, ◌<◌, ◌↔◌, Bool, true, false, not, cond, nat_eq, ◌||◌, List, [], ◌∷◌, ◌++◌, length, map, take, drop, get_or, slice_get, Option, Some, None, refl, ap, sym, subst, ◌⊎◌, inl, inr, arith, if◌then◌else◌, IsTrue}
 use Rattle.std.proofs.lemmas.Bool.Decides.{nat_tests}
 use Rattle.std.proofs.lemmas.List.{map-append}
 use Rattle.std.proofs.Math.Seq.{drop-cons}
@@ -21,7 +21,7 @@ use Rattle.th_type.specs.Rules.{names_meant, member_failures, list_failures, Nam
 use Rattle.th_type.specs.Closure.{Climbed}
 use Rattle.th_type.specs.Tables.{above_of}
 use Rattle.th_type.specs.Judged.{SameNumbers, Listed, Judged, FailsAmong, Judging}
-use Rattle.th_type.proofs.Members.{in_map, in_left, in_right, from_append, at_in}
+use Rattle.th_type.proofs.Members.{in_left, in_right, from_append, at_in}
 use Rattle.th_type.proofs.Least.{least_alike, least_lowest, lowest_append, up_to_self}
 use Rattle.th_type.proofs.Noting.{any_in}
 use Rattle.th_type.proofs.Closure.{climbed_none}
@@ -89,10 +89,10 @@ listed_more text i ms d old mid new seen later h e inv a =
     let c : drop i ms ≡ d ∷ drop (i + 1) ms = drop-cons ms i d h ∙ ap (λ (x : Supertype). x ∷ drop (suc i) ms) (sym e) ∙ ap (λ k. d ∷ drop k ms) (sym o) in
     let s = list_same text (map super_of (drop (i + 1) ms)) later (names_meant (meant_of d.meaning) ++ seen) a.names in
     ap (lowest new) s
-  ∙ ap (λ o. lowest o (list_failures text (names_meant (meant_of d.meaning) ++ seen) (map super_of (drop (i + 1) ms)))) a.least
-  ∙ sym (lowest_append mid (member_failures text seen d.at (meant_of d.meaning)) (list_failures text (names_meant (meant_of d.meaning) ++ seen) (map super_of (drop (i + 1) ms))))
-  ∙ ap (λ ts. lowest mid (list_failures text seen (map super_of ts))) (sym c)
-  ∙ inv
+    ∙ ap (λ o. lowest o (list_failures text (names_meant (meant_of d.meaning) ++ seen) (map super_of (drop (i + 1) ms)))) a.least
+    ∙ sym (lowest_append mid (member_failures text seen d.at (meant_of d.meaning)) (list_failures text (names_meant (meant_of d.meaning) ++ seen) (map super_of (drop (i + 1) ms))))
+    ∙ ap (λ ts. lowest mid (list_failures text seen (map super_of ts))) (sym c)
+    ∙ inv
 
 not_climbed : (ds : List Declaration) (n : ℕ) (xs : List TypeExpr) → (ReachesItself ds n → ⊥) → Climbed (declared_types ds) n xs → ¬ IsTangled ds n
 not_climbed ds n xs r c (inl h) = r h
@@ -179,26 +179,32 @@ judging_more ds ps d old mid new es fs a j b e = record {
 } where
   L : List Failure
   L = list_failures d.place.text [] d.supertypes
+
   U : List Failure
   U = unless b.holds 6 d.place
+
   forth : (g : Failure) → FailsAmong ds ps old g ⊎ IsIn g (L ++ U) → FailsAmong ds (ps ++ d ∷ []) old g
   forth g (inl (inl h)) = inl h
   forth g (inl (inr (c, i, h))) = inr (c, in_left c ps (d ∷ []) i, h)
   forth g (inr i) = elim (from_append g L U i) [ inl l ↦ inr (d, in_right d ps (d ∷ []) (inl refl), inl l) | inr u ↦ inr (d, in_right d ps (d ∷ []) (inl refl), inr (tangled_to ds d b.holds g b.decides u)) ]
+
   of_d : (g : Failure) → FailsSupertypes ds d g → IsIn g (L ++ U)
   of_d g (inl l) = in_left g L U l
   of_d g (inr (t, q)) = in_right g L U (tangled_from ds d b.holds g b.decides t q)
+
   back : (g : Failure) → FailsAmong ds (ps ++ d ∷ []) old g → FailsAmong ds ps old g ⊎ IsIn g (L ++ U)
   back g (inl h) = inl (inl h)
   back g (inr (c, i, h)) = elim (from_append c ps (d ∷ []) i) [ inl k ↦ inl (inr (c, k, h)) | inr k ↦ elim k [ inl s ↦ inr (of_d g (subst (λ c. FailsSupertypes ds c g) s h)) | inr z ↦ absurd z ] ]
+
   climbed_by : new ≡ None → (k : ℕ) (x : Above) → lookup (nat_eq k) (es ++ (d.name, a) ∷ []) ≡ Some x → (¬ IsTangled ds k) × Climbed (declared_types ds) k (above_of x)
   climbed_by n k x h =
       let p = lowest_none mid (L ++ U) (sym b.least ∙ n) in
       let t : b.holds ≡ true = unless_nil b.holds d.place (append_nil L U p.1) in
       elim (look_push k d.name a x es h) [
-        inl q ↦ j.climbed p.0 k x q
-      | inr q ↦ (let c : (¬ IsTangled ds d.name) × Climbed (declared_types ds) d.name (above_of a) = (subst (λ b. MatchBool b (¬ IsTangled ds d.name) (IsTangled ds d.name)) t b.decides, b.climbed t) in
-                 subst (λ y. (¬ IsTangled ds k) × Climbed (declared_types ds) k (above_of y)) (sym q.1) (subst (λ k. (¬ IsTangled ds k) × Climbed (declared_types ds) k (above_of a)) (sym q.0) c)) ]
+        | inl q ↦ j.climbed p.0 k x q
+        | inr q ↦ (let c : (¬ IsTangled ds d.name) × Climbed (declared_types ds) d.name (above_of a) = (subst (λ b. MatchBool b (¬ IsTangled ds d.name) (IsTangled ds d.name)) t b.decides, b.climbed t) in
+            subst (λ y. (¬ IsTangled ds k) × Climbed (declared_types ds) k (above_of y)) (sym q.1) (subst (λ k. (¬ IsTangled ds k) × Climbed (declared_types ds) k (above_of a)) (sym q.0) c))
+      ]
 
 look_absent : {A : Type 0} (n : ℕ) (es : List (ℕ × A)) → (IsIn n (map (λ e. e.0) es) → ⊥) → lookup (nat_eq n) es ≡ None
 look_absent n [] h = refl

@@ -1,10 +1,9 @@
 -- What is kept of failures is the least of them.
-use Rattle.std.proofs.Common.{◌≡◌, ℕ, ◌<◌, ◌≤◌, Bool, true, false, List, [], ◌∷◌, ◌++◌, Option, Some, None, refl, sym, subst, ◌⊎◌, inl, inr, arith, if◌then◌else◌}
+use Rattle.std.proofs.Common.{◌≡◌, Bool, true, false, List, [], ◌∷◌, ◌++◌, Option, Some, None, refl, sym, subst, ◌⊎◌, inl, inr, arith, if◌then◌else◌}
 use Rattle.std.proofs.lemmas.Bool.Decides.{nat_tests}
-use Rattle.th_type.specs.declared.place.Place.{Place}
 use Rattle.th_type.specs.declared.place.Failure.{Failure}
 use Rattle.th_type.specs.Lists.{IsIn}
-use Rattle.th_type.specs.Failures.{failure, before, lower, lowest, unless, UpTo, IsLeastOf}
+use Rattle.th_type.specs.Failures.{before, lower, lowest, UpTo, IsLeastOf}
 
 up_to_trans : (f g h : Failure) → UpTo f g → UpTo g h → UpTo f h
 up_to_trans f g h a b = grind arith
@@ -40,9 +39,9 @@ pub least_lowest : (P : Failure → Type 0) (o : Option Failure) (fs : List Fail
 least_lowest P o [] h = least_alike P (λ g. P g ⊎ IsIn g []) o (λ g p. inl p) (λ g q. elim q [ inl p ↦ p | inr n ↦ absurd n ]) h
 least_lowest P o (f ∷ fs) h =
     least_alike (λ g. (P g ⊎ (g ≡ f)) ⊎ IsIn g fs) (λ g. P g ⊎ IsIn g (f ∷ fs)) (lowest (lower o f) fs)
-      (λ g q. elim q [ inl p ↦ elim p [ inl a ↦ inl a | inr b ↦ inr (inl b) ] | inr n ↦ inr (inr n) ])
-      (λ g q. elim q [ inl p ↦ inl (inl p) | inr n ↦ elim n [ inl b ↦ inl (inr b) | inr m ↦ inr m ] ])
-      (least_lowest (λ g. P g ⊎ (g ≡ f)) (lower o f) fs (least_lower P o f h))
+    (λ g q. elim q [ inl p ↦ elim p [ inl a ↦ inl a | inr b ↦ inr (inl b) ] | inr n ↦ inr (inr n) ])
+    (λ g q. elim q [ inl p ↦ inl (inl p) | inr n ↦ elim n [ inl b ↦ inl (inr b) | inr m ↦ inr m ] ])
+    (least_lowest (λ g. P g ⊎ (g ≡ f)) (lower o f) fs (least_lower P o f h))
 
 -- one failure and a list after it
 pub lowest_append : (o : Option Failure) (xs ys : List Failure) → lowest o (xs ++ ys) ≡ lowest (lowest o xs) ys

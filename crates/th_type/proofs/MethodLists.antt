@@ -1,15 +1,14 @@
 -- Ascending lists of signatures.
-use Rattle.std.proofs.Common.{◌≡◌, ◌∙◌, ℕ, zero, suc, ◌+◌, ◌<◌, ◌≤◌, Bool, true, false, nat_eq, List, [], ◌∷◌, ◌++◌, length, map, take, drop, get_or, slice_get, Option, Some, None, option_map, refl, ap, sym, subst, ◌⊎◌, inl, inr, arith, if◌then◌else◌, take-append-drop}
+use Rattle.std.proofs.Common.{◌≡◌, ◌∙◌, ℕ, zero, suc, ◌+◌, ◌<◌, ◌≤◌, Bool, true, false, nat_eq, List, [], ◌∷◌, ◌++◌, length, map, take, drop, get_or, slice_get, Option, Some, None, option_map, refl, ap, sym, subst, inl, inr, arith, if◌then◌else◌, take-append-drop}
 use Rattle.std.proofs.lemmas.Bool.Decides.{nat_tests}
 use Rattle.std.proofs.lemmas.List.{map-append, take_more, length-map}
-use Rattle.std.specs.List.{insert}
 use Rattle.th_type.specs.declared.sig.Sig.{Sig}
-use Rattle.th_type.specs.Lists.{IsIn, or_else, first_some}
+use Rattle.th_type.specs.Lists.{IsIn, or_else}
 use Rattle.th_type.specs.Types.{TypeExpr}
 use Rattle.th_type.specs.Signatures.{Signature, sig_of, subst_sig, find_sig}
 use Rattle.th_type.specs.declared.typedef.Written.{Written}
 use Rattle.th_type.specs.MethodTables.{Rising, FoundAt, GoesAt, Merged, written_sigs}
-use Rattle.th_type.proofs.Members.{in_map, from_map, in_left, in_right, from_append, in_at, at_in, in_within}
+use Rattle.th_type.proofs.Members.{from_append, in_at, at_in, in_within}
 
 pub get_at : {A B : Type 0} (f : A → B) (xs : List A) (k : ℕ) (d : A) → k < length xs → d ≡ get_or xs k d → slice_get (map f xs) k ≡ Some (f d)
 get_at f [] k d h e = absurd (omega (arith, h))
@@ -131,7 +130,7 @@ rising_drop (suc k) (x ∷ xs) r = rising_drop k xs r.1
 pub merged_put : (ss zs : List Signature) (s : Signature) (k : ℕ) → Rising ss → GoesAt ss s.method k → zs ≡ take k ss ++ s ∷ drop k ss → Merged ss (s ∷ []) zs
 merged_put ss zs s k r g e = subst (λ zs. Merged ss (s ∷ []) zs) (sym e) (record {
   rising = rising_append (take k ss) (s ∷ drop k ss) (rising_take k ss r) (g.2, rising_drop k ss r)
-    (λ a b i j. elim j [ inl q ↦ subst (λ (b : Signature). a.method < b.method) (sym q) (g.1 a i) | inr i2 ↦ (let l = g.1 a i in let h = g.2 b i2 in omega (arith, l, h)) ]);
+      (λ a b i j. elim j [ inl q ↦ subst (λ (b : Signature). a.method < b.method) (sym q) (g.1 a i) | inr i2 ↦ (let l = g.1 a i in let h = g.2 b i2 in omega (arith, l, h)) ]);
   finds = λ m. find_append (take k ss) (s ∷ drop k ss) m ∙ by m (nat_eq s.method m) refl;
 }) where
   by : (m : ℕ) (b : Bool) → nat_eq s.method m ≡ b → or_else (find_sig (take k ss) m) (if b then Some s else find_sig (drop k ss) m) ≡ or_else (find_sig ss m) (if b then Some s else None)
@@ -174,12 +173,12 @@ map_drop f (suc k) (x ∷ xs) = map_drop f k xs
 pub merged_insert : (xs ys : List Sig) (s : Sig) (k : ℕ) → Rising (map sig_of xs) → GoesAt (map sig_of xs) s.method k → ys ≡ take k xs ++ s ∷ drop k xs → Merged (map sig_of xs) (sig_of s ∷ []) (map sig_of ys)
 merged_insert xs ys s k r g e =
     merged_put (map sig_of xs) (map sig_of ys) (sig_of s) k r g
-      (ap (map sig_of) e ∙ map-append sig_of (take k xs) (s ∷ drop k xs) ∙ ap (λ zs. zs ++ sig_of s ∷ map sig_of (drop k xs)) (map_take sig_of k xs) ∙ ap (λ zs. take k (map sig_of xs) ++ sig_of s ∷ zs) (map_drop sig_of k xs))
+    (ap (map sig_of) e ∙ map-append sig_of (take k xs) (s ∷ drop k xs) ∙ ap (λ zs. zs ++ sig_of s ∷ map sig_of (drop k xs)) (map_take sig_of k xs) ∙ ap (λ zs. take k (map sig_of xs) ++ sig_of s ∷ zs) (map_drop sig_of k xs))
 
 pub written_more : (ws : List Written) (i : ℕ) (d : Written) (s : Signature) (xs ys zs : List Signature) → i < length ws → d ≡ get_or ws i d → s ≡ sig_of d.sig → Merged xs (written_sigs (take i ws)) ys → Merged ys (s ∷ []) zs → Merged xs (written_sigs (take (i + 1) ws)) zs
 written_more ws i d s xs ys zs h e f a b =
     let g : written_sigs (take (i + 1) ws) ≡ written_sigs (take i ws) ++ s ∷ [] =
-          ap written_sigs (take_more ws i d h) ∙ map-append (λ w. sig_of w.sig) (take i ws) (get_or ws i d ∷ []) ∙ ap (λ (w : Written). written_sigs (take i ws) ++ sig_of w.sig ∷ []) (sym e) ∙ ap (λ t. written_sigs (take i ws) ++ t ∷ []) (sym f) in
+    ap written_sigs (take_more ws i d h) ∙ map-append (λ w. sig_of w.sig) (take i ws) (get_or ws i d ∷ []) ∙ ap (λ (w : Written). written_sigs (take i ws) ++ sig_of w.sig ∷ []) (sym e) ∙ ap (λ t. written_sigs (take i ws) ++ t ∷ []) (sym f) in
     subst (λ us. Merged xs us zs) (sym g) (merged_then xs (written_sigs (take i ws)) ys (s ∷ []) zs a b)
 
 abbrev inherited : List TypeExpr → List Sig → List Signature
@@ -188,7 +187,7 @@ inherited args ss = map (subst_sig args) (map sig_of ss)
 pub inherited_more : (args : List TypeExpr) (ss : List Sig) (i : ℕ) (d : Sig) (s : Signature) (xs ys zs : List Signature) → i < length ss → d ≡ get_or ss i d → s ≡ subst_sig args (sig_of d) → Merged xs (map (subst_sig args) (map sig_of (take i ss))) ys → Merged ys (s ∷ []) zs → Merged xs (map (subst_sig args) (map sig_of (take (i + 1) ss))) zs
 inherited_more args ss i d s xs ys zs h e f a b =
     let g : inherited args (take (i + 1) ss) ≡ inherited args (take i ss) ++ s ∷ [] =
-          ap (inherited args) (take_more ss i d h) ∙ ap (map (subst_sig args)) (map-append sig_of (take i ss) (get_or ss i d ∷ [])) ∙ map-append (subst_sig args) (map sig_of (take i ss)) (sig_of (get_or ss i d) ∷ []) ∙ ap (λ (w : Sig). inherited args (take i ss) ++ subst_sig args (sig_of w) ∷ []) (sym e) ∙ ap (λ t. inherited args (take i ss) ++ t ∷ []) (sym f) in
+    ap (inherited args) (take_more ss i d h) ∙ ap (map (subst_sig args)) (map-append sig_of (take i ss) (get_or ss i d ∷ [])) ∙ map-append (subst_sig args) (map sig_of (take i ss)) (sig_of (get_or ss i d) ∷ []) ∙ ap (λ (w : Sig). inherited args (take i ss) ++ subst_sig args (sig_of w) ∷ []) (sym e) ∙ ap (λ t. inherited args (take i ss) ++ t ∷ []) (sym f) in
     subst (λ us. Merged xs us zs) (sym g) (merged_then xs (inherited args (take i ss)) ys (s ∷ []) zs a b)
 
 -- what stands at the found place is the method's signature

@@ -1,5 +1,5 @@
 -- The names that a declared type reaches.
-use Rattle.std.proofs.Common.{◌≡◌, ◌∙◌, ℕ, zero, suc, ◌+◌, ◌-◌, ◌<◌, ◌≤◌, ◌↔◌, Bool, true, false, nat_eq, ◌||◌, List, [], ◌∷◌, ◌++◌, length, map, take, drop, get_or, slice_get, Option, Some, None, refl, ap, sym, subst, ◌⊎◌, inl, inr, arith, if◌then◌else◌, length-append, append_assoc, take-append-drop, IsTrue}
+use Rattle.std.proofs.Common.{◌≡◌, ◌∙◌, ℕ, zero, suc, ◌+◌, ◌-◌, ◌<◌, ◌≤◌, ◌↔◌, Bool, true, false, nat_eq, ◌||◌, List, [], ◌∷◌, ◌++◌, length, map, take, get_or, slice_get, Option, Some, None, refl, ap, sym, subst, ◌⊎◌, inl, inr, arith, if◌then◌else◌, length-append, append_assoc, IsTrue}
 use Rattle.std.proofs.lemmas.Bool.Decides.{nat_tests}
 use Rattle.std.proofs.lemmas.List.{take_more, map-append}
 use Rattle.std.specs.List.{list_any}
@@ -105,10 +105,10 @@ pub noted_more : (ms : List Supertype) (i : ℕ) (d : Supertype) (xs ys zs : Lis
 noted_more ms i d xs ys zs h e a b0 =
     let b = subst (λ (s : Supertype). Noted ys (names_meant (meant_of s.meaning)) zs) e b0 in
     let f : named (map super_of (take (i + 1) ms)) ≡ named (map super_of (take i ms)) ++ names_meant (meant_of (get_or ms i d).meaning) =
-          ap (λ ts. named (map super_of ts)) (take_more ms i d h)
-        ∙ ap named (map-append super_of (take i ms) (get_or ms i d ∷ []))
-        ∙ named_append (map super_of (take i ms)) (super_of (get_or ms i d) ∷ [])
-        ∙ ap (λ ns. named (map super_of (take i ms)) ++ ns) (append_none (names_meant (meant_of (get_or ms i d).meaning))) in
+    ap (λ ts. named (map super_of ts)) (take_more ms i d h)
+    ∙ ap named (map-append super_of (take i ms) (get_or ms i d ∷ []))
+    ∙ named_append (map super_of (take i ms)) (super_of (get_or ms i d) ∷ [])
+    ∙ ap (λ ns. named (map super_of (take i ms)) ++ ns) (append_none (names_meant (meant_of (get_or ms i d).meaning))) in
     subst (λ ps. Noted xs ps zs) (sym f) (noted_then xs (named (map super_of (take i ms))) ys (names_meant (meant_of (get_or ms i d).meaning)) zs a b)
 
 climbs_last : (ds : List Declaration) (k a b c : ℕ) → NameClimbs ds k a b → IsIn c (names_up ds b) → NameClimbs ds (suc k) a c
@@ -133,12 +133,14 @@ closed_step ds n xs ys i t c g a k v l e u j = by (nat_eq k i) refl where
       let f : slice_get ys k ≡ Some t = rw s (a.kept i t g) in
       let q : v ≡ t = cc in
       a.all u (subst (λ v. IsIn u (names_up ds v)) q j)
+
   earlier : k < i → IsIn u ys
   earlier m =
       let w = place_in k xs (let p = c.within in omega (arith, p, m)) in
       let f : slice_get ys k ≡ Some w.0 = a.kept k w.0 w.1 in
       let q : v ≡ w.0 = cc in
       in_kept xs (names_up ds t) ys a u (c.closed k w.0 m w.1 u (subst (λ v. IsIn u (names_up ds v)) q j))
+
   by : (b : Bool) → nat_eq k i ≡ b → IsIn u ys
   by true h = lasts (grind (arith, nat_tests))
   by false h = earlier (grind (arith, nat_tests))

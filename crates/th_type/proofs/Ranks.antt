@@ -1,17 +1,15 @@
 -- A declared type reaches more types than each of its supertypes.
-use Rattle.std.proofs.Common.{◌≡◌, ◌∙◌, ℕ, zero, suc, ◌+◌, ◌<◌, ◌≤◌, Bool, true, false, nat_eq, List, [], ◌∷◌, ◌++◌, length, map, Option, Some, None, refl, ap, sym, subst, ◌⊎◌, inl, inr, arith}
-use Rattle.std.proofs.lemmas.Bool.Decides.{nat_tests}
+use Rattle.std.proofs.Common.{◌≡◌, ◌∙◌, ℕ, zero, suc, ◌+◌, ◌<◌, ◌≤◌, List, [], ◌∷◌, length, map, Option, Some, None, refl, ap, sym, subst, inl, inr, arith}
 use Rattle.th_type.specs.Lists.{IsIn}
 use Rattle.th_type.specs.Types.{TypeExpr, TypeExprs, named_ty, list_of, subst_ty, subst_tys}
 use Rattle.th_type.specs.Declarations.{Meant, unresolved, parameter, by_head, whole, SuperRef, Declaration, DeclaredType, declared_types, types_meant, resolved, members_of, supers_of}
-use Rattle.th_type.specs.Subtypes.{parents, Climbs, Subtype, Reached}
-use Rattle.th_type.specs.Rules.{names_meant, named, names_up, NameClimbs, ReachesItself, IsTangled, WellFormed}
-use Rattle.th_type.specs.Closure.{find_head, one_if_none, left, Climbed}
+use Rattle.th_type.specs.Subtypes.{Climbs, Subtype, Reached}
+use Rattle.th_type.specs.Rules.{names_meant, named, names_up, NameClimbs, WellFormed}
+use Rattle.th_type.specs.Closure.{find_head, one_if_none, left}
 use Rattle.th_type.specs.Judged.{Ascended}
 use Rattle.th_type.proofs.Members.{from_map, in_left, in_right, from_append}
-use Rattle.th_type.specs.Fitting.{Fits}
 use Rattle.th_type.proofs.Subtyping.{subtype_to}
-use Rattle.th_type.proofs.Resolved.{supers_resolved, name_among, well_formed_fits, heads_among}
+use Rattle.th_type.proofs.Resolved.{supers_resolved, well_formed_fits, heads_among}
 use Rattle.th_type.proofs.Closure.{head_found, head_none}
 
 meant_named : (m : Meant) (n : ℕ) (ts : TypeExprs) → IsIn (named_ty n ts) (types_meant m) → IsIn n (names_meant m)
@@ -50,9 +48,9 @@ left_strict (n ∷ ns) xs ys s h (inl e) a b =
     let d : one_if_none (find_head xs n) ≡ 1 = subst (λ s. one_if_none (find_head xs s) ≡ 1) e b in
     let r = left_at_most ns xs ys h in
     omega (arith, c, d, r) where
-  left_at_most : (ns : List ℕ) (xs ys : List TypeExpr) → ((m : ℕ) → one_if_none (find_head ys m) ≤ one_if_none (find_head xs m)) → left ns ys ≤ left ns xs
-  left_at_most [] xs ys h = omega arith
-  left_at_most (n ∷ ns) xs ys h = let a = h n in let b = left_at_most ns xs ys h in omega (arith, a, b)
+      left_at_most : (ns : List ℕ) (xs ys : List TypeExpr) → ((m : ℕ) → one_if_none (find_head ys m) ≤ one_if_none (find_head xs m)) → left ns ys ≤ left ns xs
+      left_at_most [] xs ys h = omega arith
+      left_at_most (n ∷ ns) xs ys h = let a = h n in let b = left_at_most ns xs ys h in omega (arith, a, b)
 left_strict (n ∷ ns) xs ys s h (inr i) a b = let c = h n in let r = left_strict ns xs ys s h i a b in omega (arith, c, r)
 
 left_one : (ns : List ℕ) (xs : List TypeExpr) (n : ℕ) → IsIn n ns → one_if_none (find_head xs n) ≡ 1 → 1 ≤ left ns xs
@@ -98,21 +96,21 @@ module _ (ds : List Declaration) (w : WellFormed ds) (up : ℕ → List TypeExpr
       let cn = a.climbed n in
       let cs = a.climbed s in
       let into : (m : ℕ) → one_if_none (find_head (up n) m) ≤ one_if_none (find_head (up s) m) =
-            λ m. none_at_most (up s) (up n) m (find_head (up s) m) refl
-              (λ bs k. let r = cs.sound (named_ty m bs) k in
-                       (subst_tys (list_of args) bs, cn.all (named_ty m (subst_tys (list_of args) bs)) (reached_after D n (named_ty s args) (named_ty m (subst_tys (list_of args) bs)) j (subtype_to D f s args (named_ty m bs) r)))) in
+      λ m. none_at_most (up s) (up n) m (find_head (up s) m) refl
+      (λ bs k. let r = cs.sound (named_ty m bs) k in
+      (subst_tys (list_of args) bs, cn.all (named_ty m (subst_tys (list_of args) bs)) (reached_after D n (named_ty s args) (named_ty m (subst_tys (list_of args) bs)) j (subtype_to D f s args (named_ty m bs) r)))) in
       let here : one_if_none (find_head (up n) s) ≡ 0 = some_zero (up n) s args (find_head (up n) s) refl (cn.all (named_ty s args) (reached_after D n (named_ty s args) (named_ty s args) j (zero, refl))) in
       let away : one_if_none (find_head (up s) s) ≡ 1 = none_one (up s) s (find_head (up s) s) refl (λ bs k. no_self s bs i k) in
       let l = left_strict (map (λ d. d.name) D) (up s) (up n) s into (names_same s i) here away in
       let p = cn.count in
       let q = cs.count in
       omega (arith, l, p, q) where
-    names_same : (s : ℕ) → IsIn s (map (λ d. d.name) ds) → IsIn s (map (λ d. d.name) (declared_types ds))
-    names_same s i = in_names ds s i where
-      in_names : (ds : List Declaration) (s : ℕ) → IsIn s (map (λ d. d.name) ds) → IsIn s (map (λ d. d.name) (declared_types ds))
-      in_names [] s i = i
-      in_names (d ∷ ds) s (inl e) = inl e
-      in_names (d ∷ ds) s (inr i) = inr (in_names ds s i)
+        names_same : (s : ℕ) → IsIn s (map (λ d. d.name) ds) → IsIn s (map (λ d. d.name) (declared_types ds))
+        names_same s i = in_names ds s i where
+          in_names : (ds : List Declaration) (s : ℕ) → IsIn s (map (λ d. d.name) ds) → IsIn s (map (λ d. d.name) (declared_types ds))
+          in_names [] s i = i
+          in_names (d ∷ ds) s (inl e) = inl e
+          in_names (d ∷ ds) s (inr i) = inr (in_names ds s i)
 
   -- a declared type reaches fewer types than there are
   pub rank_bound : (n : ℕ) → IsIn n (map (λ d. d.name) ds) → IsIn n (map (λ d. d.name) (declared_types ds)) → length (up n) < length (declared_types ds)

@@ -1,8 +1,8 @@
 -- Laws of the subtype relation.
-use Rattle.std.proofs.Common.{◌≡◌, ℕ, zero, suc, ◌<◌, ◌≤◌, ◌+◌, List, [], ◌∷◌, length, map, refl, ap, sym, ◌∙◌, subst, ◌⊎◌, inl, inr, arith}
+use Rattle.std.proofs.Common.{◌≡◌, ℕ, zero, suc, List, [], length, map, refl, ap, sym, ◌∙◌, subst, ◌⊎◌, inl, inr}
 use Rattle.std.proofs.lemmas.List.{length-map}
 use Rattle.th_type.specs.Lists.{IsIn}
-use Rattle.th_type.specs.Types.{TypeExpr, int_ty, bool_ty, text_ty, array_ty, named_ty, param_ty, TypeExprs, list_of, subst_ty, subst_tys, ParamsBelow}
+use Rattle.th_type.specs.Types.{TypeExpr, named_ty, TypeExprs, list_of, subst_ty, subst_tys, ParamsBelow}
 use Rattle.th_type.specs.Declarations.{DeclaredType, supers_of, params_of}
 use Rattle.th_type.specs.Subtypes.{parents, Climbs, Subtype, Reached}
 use Rattle.th_type.specs.Fitting.{Saturated, Fits}
@@ -13,7 +13,7 @@ module _ (D : List DeclaredType) (fits : Fits D) where
   named_subst : (args : List TypeExpr) (m : ℕ) (ts : TypeExprs) → length (list_of ts) ≡ params_of D m → parents D (named_ty m (subst_tys args ts)) ≡ map (subst_ty args) (parents D (named_ty m ts))
   named_subst args m ts h =
       map_same (subst_ty (list_of (subst_tys args ts))) (λ s. subst_ty args (subst_ty (list_of ts) s)) (supers_of D m)
-        (λ s i. rw (list_subst args ts) (sym (subst_subst args (list_of ts) s (subst (λ n. ParamsBelow n s) (sym h) (fits.below m s i)))))
+      (λ s i. rw (list_subst args ts) (sym (subst_subst args (list_of ts) s (subst (λ n. ParamsBelow n s) (sym h) (fits.below m s i)))))
       ∙ sym (map_map (subst_ty (list_of ts)) (subst_ty args) (supers_of D m))
 
   -- the declared supertypes of a type with arguments substituted are those of the type, with arguments substituted

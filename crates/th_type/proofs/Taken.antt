@@ -1,18 +1,17 @@
 -- The types that are taken of a list of supertypes.
-use Rattle.std.proofs.Common.{◌≡◌, ◌∙◌, ◌≢◌, ℕ, ◌+◌, ◌<◌, ◌≤◌, Bool, true, false, List, [], ◌∷◌, ◌++◌, length, map, take, drop, get_or, Option, Some, None, refl, ap, sym, subst, arith, append_assoc, take-append-drop}
+use Rattle.std.proofs.Common.{◌≡◌, ◌∙◌, ℕ, ◌+◌, ◌<◌, ◌≤◌, Bool, true, false, List, [], ◌∷◌, ◌++◌, length, map, take, drop, get_or, Some, None, refl, ap, sym, subst, arith, append_assoc, take-append-drop}
 use Rattle.std.specs.Bool.{MatchBool}
 use Rattle.std.proofs.lemmas.List.{take_more, map-append}
-use Rattle.std.proofs.Math.Seq.{drop-cons}
 use Rattle.th_type.specs.declared.ty.TyList.{TyList}
 use Rattle.th_type.specs.declared.typedef.Meaning.{Meaning}
 use Rattle.th_type.specs.declared.typedef.Meaning.TheVariants.{Whole}
 use Rattle.th_type.specs.declared.typedef.Supertype.{Supertype}
-use Rattle.th_type.specs.Types.{TypeExpr, TypeExprs, named_ty, tys_of, list_of, subst_ty, subst_tys, ty_height, tys_height, same_tys}
-use Rattle.th_type.specs.Declarations.{Meant, SuperRef, meant_of, super_of, types_meant, resolved}
+use Rattle.th_type.specs.Types.{TypeExpr, TypeExprs, named_ty, tys_of, list_of, subst_ty, subst_tys, tys_height, same_tys}
+use Rattle.th_type.specs.Declarations.{SuperRef, meant_of, super_of, types_meant, resolved}
 use Rattle.th_type.specs.Closure.{find_head, Took, Clashes, taken, all_taken}
 use Rattle.th_type.proofs.Same.{sames_equal, sames_self}
 use Rattle.th_type.proofs.Substitution.{subst_none}
-use Rattle.th_type.proofs.Closure.{took_none, took_push, took_known, took_then, clash_high, clash_two, clash_first, clash_then}
+use Rattle.th_type.proofs.Closure.{took_push, took_known, took_then, clash_high, clash_two, clash_first, clash_then}
 
 pub taken_whole : (args : TypeExprs) (m : Meaning) (n : ℕ) (list : TyList) (ts : TypeExprs) → m ≡ Whole n list → ts ≡ subst_tys (list_of args) (tys_of list) → taken args (meant_of m) ≡ named_ty n ts ∷ []
 taken_whole args m n list ts e f = rw e (ap (λ us. named_ty n us ∷ []) (sym f))
@@ -47,15 +46,15 @@ taken_one args s = ap (map (subst_ty (list_of args))) (append_none (types_meant 
 pub taken_more : (args : TypeExprs) (ms : List Supertype) (i : ℕ) (d : Supertype) → i < length ms → all_taken args (map super_of (take (i + 1) ms)) ≡ all_taken args (map super_of (take i ms)) ++ taken args (meant_of (get_or ms i d).meaning)
 taken_more args ms i d h =
     ap (λ ts. all_taken args (map super_of ts)) (take_more ms i d h)
-  ∙ ap (all_taken args) (map-append super_of (take i ms) (get_or ms i d ∷ []))
-  ∙ taken_append args (map super_of (take i ms)) (super_of (get_or ms i d) ∷ [])
-  ∙ ap (λ ts. all_taken args (map super_of (take i ms)) ++ ts) (taken_one args (get_or ms i d))
+    ∙ ap (all_taken args) (map-append super_of (take i ms) (get_or ms i d ∷ []))
+    ∙ taken_append args (map super_of (take i ms)) (super_of (get_or ms i d) ∷ [])
+    ∙ ap (λ ts. all_taken args (map super_of (take i ms)) ++ ts) (taken_one args (get_or ms i d))
 
 pub all_more : (args : TypeExprs) (ms : List Supertype) (i : ℕ) → all_taken args (map super_of ms) ≡ all_taken args (map super_of (take i ms)) ++ all_taken args (map super_of (drop i ms))
 all_more args ms i =
     ap (λ ts. all_taken args (map super_of ts)) (sym (take-append-drop i ms))
-  ∙ ap (all_taken args) (map-append super_of (take i ms) (drop i ms))
-  ∙ taken_append args (map super_of (take i ms)) (map super_of (drop i ms))
+    ∙ ap (all_taken args) (map-append super_of (take i ms) (drop i ms))
+    ∙ taken_append args (map super_of (take i ms)) (map super_of (drop i ms))
 
 -- a further member is taken
 pub took_more : (args : TypeExprs) (ms : List Supertype) (i : ℕ) (d : Supertype) (xs ys zs : List TypeExpr) → i < length ms → d ≡ get_or ms i d → Took xs (all_taken args (map super_of (take i ms))) ys → Took ys (taken args (meant_of d.meaning)) zs → Took xs (all_taken args (map super_of (take (i + 1) ms))) zs

@@ -1,5 +1,5 @@
 -- The loops of the tests of signatures.
-use Rattle.std.proofs.Common.{◌≡◌, ◌∙◌, ℕ, zero, suc, ◌+◌, ◌<◌, ◌≤◌, Bool, true, false, nat_eq, ◌&&◌, ◌||◌, List, [], ◌∷◌, ◌++◌, length, map, take, drop, get_or, slice_get, Option, Some, None, option_map, refl, ap, sym, subst, arith, append_assoc, take-append-drop}
+use Rattle.std.proofs.Common.{◌≡◌, ◌∙◌, ℕ, zero, suc, ◌+◌, ◌<◌, Bool, true, false, nat_eq, ◌&&◌, ◌||◌, List, [], ◌∷◌, ◌++◌, length, map, take, drop, get_or, slice_get, Option, Some, option_map, refl, ap, sym, arith, append_assoc, take-append-drop}
 use Rattle.std.proofs.lemmas.List.{map-append, take_more}
 use Rattle.std.proofs.Math.Seq.{drop-cons}
 use Rattle.std.specs.List.{list_any, list_all}
@@ -13,7 +13,7 @@ use Rattle.th_type.specs.declared.typedef.Meaning.TheVariants.{Whole}
 use Rattle.th_type.specs.declared.typedef.Supertype.{Supertype}
 use Rattle.th_type.specs.declared.typedef.Written.{Written}
 use Rattle.th_type.specs.declared.typedef.TypeDef.{TypeDef}
-use Rattle.th_type.specs.Lists.{IsIn, is_in}
+use Rattle.th_type.specs.Lists.{is_in}
 use Rattle.th_type.specs.Types.{TypeExpr, int_ty, bool_ty, text_ty, array_ty, named_ty, param_ty, tys_of, list_of}
 use Rattle.th_type.specs.Signatures.{Signature, sig_of, subst_sig}
 use Rattle.th_type.specs.Declarations.{SuperRef, WrittenSig, Declaration, named_decl, super_of, written_of, meant_of, types_meant, resolved}
@@ -73,7 +73,7 @@ append_none (x ∷ xs) = ap (λ ys. x ∷ ys) (append_none xs)
 
 pub resolved_more : (ms : List Supertype) (i : ℕ) (d : Supertype) → i < length ms → d ≡ get_or ms i d → resolved (map super_of (take (i + 1) ms)) ≡ resolved (map super_of (take i ms)) ++ types_meant (meant_of d.meaning)
 resolved_more ms i d h e =
-      ap (λ ts. resolved (map super_of ts)) (take_more ms i d h)
+    ap (λ ts. resolved (map super_of ts)) (take_more ms i d h)
     ∙ ap resolved (map-append super_of (take i ms) (get_or ms i d ∷ []))
     ∙ resolved_append (map super_of (take i ms)) (super_of (get_or ms i d) ∷ [])
     ∙ ap (λ ts. resolved (map super_of (take i ms)) ++ ts) (append_none (types_meant (meant_of (get_or ms i d).meaning)))
@@ -121,9 +121,9 @@ written_next up f e ws i d fits mid new total h q inv a b =
     let o : i + 1 ≡ suc i = omega arith in
     let c : drop i ws ≡ d ∷ drop (i + 1) ws = drop-cons ws i d h ∙ ap (λ (x : Written). x ∷ drop (suc i) ws) (sym q) ∙ ap (λ k. d ∷ drop k ws) (sym o) in
     ap (λ o. lowest o (written_failures up f e (map written_of (drop (i + 1) ws)))) (a ∙ ap (λ b. lowest mid (unless b 8 (place e.place.text d.at))) b)
-  ∙ sym (lowest_append mid (unless (fits_all up f (sig_of d.sig) (resolved e.supertypes)) 8 (place e.place.text d.at)) (written_failures up f e (map written_of (drop (i + 1) ws))))
-  ∙ ap (λ ts. lowest mid (written_failures up f e (map written_of ts))) (sym c)
-  ∙ inv
+    ∙ sym (lowest_append mid (unless (fits_all up f (sig_of d.sig) (resolved e.supertypes)) 8 (place e.place.text d.at)) (written_failures up f e (map written_of (drop (i + 1) ws))))
+    ∙ ap (λ ts. lowest mid (written_failures up f e (map written_of ts))) (sym c)
+    ∙ inv
 
 agrees_same : (es : List (ℕ × Vec Sig)) (xs ys : List ℕ) (own : ℕ → Option Signature) → SameNumbers xs ys → (ts : List TypeExpr) → agrees_all es xs own ts ≡ agrees_all es ys own ts
 agrees_same es xs ys own h [] = refl
@@ -131,6 +131,7 @@ agrees_same es xs ys own h (t ∷ ts) = rw (type_same t, agrees_same es xs ys ow
   sigs_same : (ss : List Signature) → list_all (agrees_sig xs own) ss ≡ list_all (agrees_sig ys own) ss
   sigs_same [] = refl
   sigs_same (s ∷ ss) = rw (ap (λ b. b || agrees_found (own s.method) s) (h s.method), sigs_same ss) refl
+
   type_same : (t : TypeExpr) → agrees_type es xs own t ≡ agrees_type es ys own t
   type_same int_ty = refl
   type_same bool_ty = refl
@@ -152,7 +153,7 @@ type_judged up es n def ks agrees old mid new ws ss we se a b c d =
     let m : SameNumbers ks N = λ k. b k ∙ ap (λ ws. is_in k (map (λ (w : Written). w.sig.method) ws)) we ∙ ap (is_in k) (methods_same def.methods.items) in
     let e : agrees ≡ agrees_all es N (method_in es n) T = c ∙ ap (λ ss. agrees_all es ks (method_in es n) (resolved (map super_of ss))) se ∙ agrees_same es ks N (method_in es n) m T in
     d ∙ ap (λ b. lowest mid (unless b 8 def.place)) e ∙ ap (λ o. lowest o (unless (agrees_all es N (method_in es n) T) 8 def.place)) a
-  ∙ sym (lowest_append old (written_failures up (method_in es) (named_decl n def) (map written_of def.methods.items)) (unless (agrees_all es N (method_in es n) T) 8 def.place))
+    ∙ sym (lowest_append old (written_failures up (method_in es) (named_decl n def) (map written_of def.methods.items)) (unless (agrees_all es N (method_in es n) T) 8 def.place))
 
 drop_next : {A : Type 0} (xs : List A) (k : ℕ) (x : A) → slice_get xs k ≡ Some x → drop k xs ≡ x ∷ drop (k + 1) xs
 drop_next [] k x h = cc
@@ -162,6 +163,6 @@ drop_next (y ∷ ys) (suc k) x h = let o : suc k + 1 ≡ suc (k + 1) = omega ari
 pub all_next : (up : ℕ → List TypeExpr) (es : List (ℕ × Vec Sig)) (ds : List Declaration) (k : ℕ) (d : Declaration) (mid new total : Option Failure) → slice_get ds k ≡ Some d → lowest mid (all_failures up es (drop k ds)) ≡ total → new ≡ lowest mid (def_failures up es d) → lowest new (all_failures up es (drop (k + 1) ds)) ≡ total
 all_next up es ds k d mid new total g inv a =
     ap (λ o. lowest o (all_failures up es (drop (k + 1) ds))) a
-  ∙ sym (lowest_append mid (def_failures up es d) (all_failures up es (drop (k + 1) ds)))
-  ∙ ap (λ ts. lowest mid (all_failures up es ts)) (sym (drop_next ds k d g))
-  ∙ inv
+    ∙ sym (lowest_append mid (def_failures up es d) (all_failures up es (drop (k + 1) ds)))
+    ∙ ap (λ ts. lowest mid (all_failures up es ts)) (sym (drop_next ds k d g))
+    ∙ inv

@@ -99,19 +99,19 @@ coded_types = code_by (List (ℕ × ℕ)) steps_code (λ ts. all_steps ts []) (�
 abbrev pub coded_signature : Coded Signature
 coded_signature =
     code_by (ℕ × (Bool × (TypeExprs × (Option TypeExpr × List ℕ))))
-      (coded× coded_ℕ (coded× coded_bool (coded× coded_types (coded× (coded_option coded_type) (coded_list coded_ℕ)))))
-      (λ s. (s.method, (s.iterator, (s.formals, (s.gives, s.signals)))))
-      (λ p. record { method = p.0; iterator = p.1.0; formals = p.1.1.0; gives = p.1.1.1.0; signals = p.1.1.1.1 })
-      (λ _. refl)
+    (coded× coded_ℕ (coded× coded_bool (coded× coded_types (coded× (coded_option coded_type) (coded_list coded_ℕ)))))
+    (λ s. (s.method, (s.iterator, (s.formals, (s.gives, s.signals)))))
+    (λ p. record { method = p.0; iterator = p.1.0; formals = p.1.1.0; gives = p.1.1.1.0; signals = p.1.1.1.1 })
+    (λ _. refl)
 
 -- a declared type is stored as its fields
 abbrev pub coded_declared : Coded DeclaredType
 coded_declared =
     code_by (ℕ × (ℕ × (List TypeExpr × List Signature)))
-      (coded× coded_ℕ (coded× coded_ℕ (coded× (coded_list coded_type) (coded_list coded_signature))))
-      (λ d. (d.name, (d.params, (d.supertypes, d.written))))
-      (λ p. record { name = p.0; params = p.1.0; supertypes = p.1.1.0; written = p.1.1.1 })
-      (λ _. refl)
+    (coded× coded_ℕ (coded× coded_ℕ (coded× (coded_list coded_type) (coded_list coded_signature))))
+    (λ d. (d.name, (d.params, (d.supertypes, d.written))))
+    (λ p. record { name = p.0; params = p.1.0; supertypes = p.1.1.0; written = p.1.1.1 })
+    (λ _. refl)
 
 -- a where-clause is stored as its fields
 abbrev pub coded_constraint : Coded Constraint

@@ -1,5 +1,5 @@
 -- Tables of methods.
-use Rattle.std.specs.Prelude.{◌≡◌, ℕ, suc, ◌+◌, ◌<◌, ◌≤◌, nat_eq, List, [], ◌∷◌, ◌++◌, ◌⊎◌, length, map, take, drop, slice_get, Option, Some, None}
+use Rattle.std.specs.Prelude.{◌≡◌, ℕ, ◌<◌, ◌≤◌, nat_eq, List, [], ◌∷◌, ◌++◌, ◌⊎◌, length, map, take, drop, slice_get, Option, Some, None}
 use Rattle.std.specs.Map.{lookup}
 use Rattle.std.specs.Global.{Vec}
 use Rattle.th_type.specs.declared.sig.Sig.{Sig}
@@ -7,7 +7,7 @@ use Rattle.th_type.specs.declared.typedef.Written.{Written}
 use Rattle.th_type.specs.Lists.{IsIn, or_else, first_some}
 use Rattle.th_type.specs.Types.{TypeExpr}
 use Rattle.th_type.specs.Signatures.{Signature, sig_of, find_sig}
-use Rattle.th_type.specs.Declarations.{SuperRef, Declaration, DeclaredType, declared_types, resolved}
+use Rattle.th_type.specs.Declarations.{Declaration, DeclaredType, resolved}
 use Rattle.th_type.specs.Methods.{applied, method_up, method_of}
 
 -- the methods' numbers ascend
@@ -58,7 +58,7 @@ pub record Settled (D : List DeclaredType) (up : ℕ → List TypeExpr) (n : ℕ
 -- the declared type was put into the table where it was not there
 abbrev pub Put : List (ℕ × Vec Sig) → List (ℕ × Vec Sig) → Declaration → Type 0
 Put es fs d = ((fs ≡ es) × (lookup (nat_eq d.name) es ≡ None → ⊥))
-  ⊎ ((v : Vec Sig) × (fs ≡ es ++ (d.name, v) ∷ []) × Joined es (map (λ w. w.sig) d.methods) (resolved d.supertypes) (map sig_of v.items))
+    ⊎ ((v : Vec Sig) × (fs ≡ es ++ (d.name, v) ∷ []) × Joined es (map (λ w. w.sig) d.methods) (resolved d.supertypes) (map sig_of v.items))
 
 -- the table has the methods of declared types, of all that reach fewer than r supertypes, and of those of ps that reach r
 pub record Filling (D : List DeclaredType) (up : ℕ → List TypeExpr) (es : List (ℕ × Vec Sig)) (r : ℕ) (ps : List Declaration) : Type 0 where

@@ -1,6 +1,5 @@
 -- The rules on supertypes and inherited methods, as the failures that a list of declared types has.
-use Rattle.std.specs.Prelude.{◌≡◌, ◌≢◌, ℕ, zero, suc, ◌<◌, Bool, not, ◌⊎◌, List, [], ◌∷◌, ◌++◌, Option, Some, None, if◌then◌else◌, nat_eq, length}
-use Rattle.th_type.specs.declared.place.Place.{Place}
+use Rattle.std.specs.Prelude.{◌≡◌, ◌≢◌, ℕ, zero, suc, ◌<◌, not, ◌⊎◌, List, [], ◌∷◌, ◌++◌, Option, Some, None, length}
 use Rattle.th_type.specs.declared.place.Failure.{Failure}
 use Rattle.th_type.specs.Failures.{place, failure, unless, IsLeastOf}
 use Rattle.th_type.specs.Lists.{IsIn, is_in}
@@ -75,13 +74,13 @@ Misfits D supers s = (n : ℕ) × (args : TypeExprs) × (t : Signature) × IsIn 
 -- two declared supertypes have a method that is not written, with different signatures
 abbrev pub Differs : List DeclaredType → DeclaredType → Type 0
 Differs D d = (m : ℕ) × (t : TypeExpr) × (u : TypeExpr) × (s : Signature) × (r : Signature)
-  × (find_sig d.written m ≡ None) × IsIn t d.supertypes × IsIn u d.supertypes
-  × (method_at D t m ≡ Some s) × (method_at D u m ≡ Some r) × (¬ SameSignature s r)
+    × (find_sig d.written m ≡ None) × IsIn t d.supertypes × IsIn u d.supertypes
+    × (method_at D t m ≡ Some s) × (method_at D u m ≡ Some r) × (¬ SameSignature s r)
 
 -- f is a failure of rule 8 in the declared type d
 abbrev pub FailsMethods : List DeclaredType → Declaration → Failure → Type 0
 FailsMethods D d f = ((w : WrittenSig) × IsIn w d.methods × Misfits D (resolved d.supertypes) w.sig × (f ≡ failure 8 (place d.place.text w.at)))
-  ⊎ (Differs D (declared_type d) × (f ≡ failure 8 d.place))
+    ⊎ (Differs D (declared_type d) × (f ≡ failure 8 d.place))
 
 -- f is a failure of rule 8: a written method conforms to that method in each declared supertype that has it; a method
 -- that two declared supertypes have and that is not written has the same signature in both, signals as a set

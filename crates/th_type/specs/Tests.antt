@@ -9,7 +9,7 @@ use Rattle.th_type.specs.Types.{TypeExpr, int_ty, bool_ty, text_ty, array_ty, na
 use Rattle.th_type.specs.Signatures.{Signature, subst_sig}
 use Rattle.th_type.specs.Declarations.{WrittenSig, Declaration, resolved}
 use Rattle.th_type.specs.Failures.{place, unless}
-use Rattle.th_type.specs.Conforming.{all_in, same_gives, same_bool, exactly, same_sig, is_param_ty}
+use Rattle.th_type.specs.Conforming.{all_in, same_gives, same_bool, same_sig, is_param_ty}
 use Rattle.th_type.specs.MethodTables.{Rising, methods_in, method_in}
 use Rattle.th_type.specs.Tables.{table_subtype}
 
@@ -54,7 +54,7 @@ gives_fit up it (Some t) (Some u) = gives_within up it t u
 abbrev pub conforms_test : (ℕ → List TypeExpr) → (ℕ → ℕ → Option Signature) → ℕ → Signature → Signature → Bool
 conforms_test up f n s t =
     same_bool s.iterator t.iterator && (same_tys s.formals t.formals && (all_in s.signals t.signals
-  && (gives_fit up s.iterator s.gives t.gives && (not (is_fixed up f n t.method) || same_gives s.gives t.gives))))
+    && (gives_fit up s.iterator s.gives t.gives && (not (is_fixed up f n t.method) || same_gives s.gives t.gives))))
 
 abbrev pub fits_found : (ℕ → List TypeExpr) → (ℕ → ℕ → Option Signature) → ℕ → Signature → Option Signature → Bool
 fits_found up f n s None = true
@@ -103,7 +103,7 @@ agrees_all es written own ts = list_all (agrees_type es written own) ts
 abbrev pub def_failures : (ℕ → List TypeExpr) → List (ℕ × Vec Sig) → Declaration → List Failure
 def_failures up es d =
     written_failures up (method_in es) d d.methods
-  ++ unless (agrees_all es (map (λ w. w.sig.method) d.methods) (method_in es d.name) (resolved d.supertypes)) 8 d.place
+    ++ unless (agrees_all es (map (λ w. w.sig.method) d.methods) (method_in es d.name) (resolved d.supertypes)) 8 d.place
 
 -- the failures of all declared types
 abbrev pub all_failures : (ℕ → List TypeExpr) → List (ℕ × Vec Sig) → List Declaration → List Failure

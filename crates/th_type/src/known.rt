@@ -128,12 +128,7 @@ impl Tables {
     }
 
     /// Whether a signature conforms to that of its method in a supertype, where that has the method.
-    fn fits_member(
-        &self,
-        alloc: Global,
-        sig: &Sig,
-        meaning: &Meaning,
-    ) -> Result<bool, AllocError>
+    fn fits_member(&self, alloc: Global, sig: &Sig, meaning: &Meaning) -> Result<bool, AllocError>
         requires { AllRise (tables_methods self.now) }
         ensures { IfOk result (λ fits. fits ≡ fits_all (tables_up self.now) (method_in (tables_methods self.now)) (sig_of sig.now) (types_meant (meant_of meaning.now))) }
     {
@@ -150,12 +145,7 @@ impl Tables {
     }
 
     /// Whether a signature conforms to those of its method in all declared supertypes.
-    fn fits_all(
-        &self,
-        alloc: Global,
-        sig: &Sig,
-        members: &[Supertype],
-    ) -> Result<bool, AllocError>
+    fn fits_all(&self, alloc: Global, sig: &Sig, members: &[Supertype]) -> Result<bool, AllocError>
         requires { AllRise (tables_methods self.now) }
         ensures { IfOk result (λ fits. fits ≡ fits_all (tables_up self.now) (method_in (tables_methods self.now)) (sig_of sig.now) (resolved (map super_of members.now))) }
     {

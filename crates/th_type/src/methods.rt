@@ -115,12 +115,7 @@ fn build(alloc: Global, table: &Methods, def: &TypeDef) -> Result<Vec<Sig>, Allo
 }
 
 /// Puts a declared type into the table, all of whose supertypes are there.
-fn fill_one(
-    alloc: Global,
-    table: &mut Methods,
-    name: u32,
-    def: &TypeDef,
-) -> Result<(), AllocError>
+fn fill_one(alloc: Global, table: &mut Methods, name: u32, def: &TypeDef) -> Result<(), AllocError>
     ensures { IfOk result (λ _. Put table.old.map.entries table.new.map.entries (named_decl name def.now)) }
 {
     if table.has(name) {

@@ -11,6 +11,7 @@ returns-in-Ok c = merged_found (map sig_of c.args.sigs.now.items) (sig_of c.args
 
 pub returns-after-insert : goal.returns-after-insert
 returns-after-insert c = elim c.match-insert.branch [
-    in-Ok-insert w ↦ rw w.result-is (merged_insert c.args.sigs.now.items c.insert.new.self.items c.args.sig c.in-Err.at c.requires
+  | in-Ok-insert w ↦ rw w.result-is (merged_insert c.args.sigs.now.items c.insert.new.self.items c.args.sig c.in-Err.at c.requires
       (subst (λ xs. GoesAt (map sig_of xs) c.args.sig.method c.in-Err.at) c.deref.ensures.value c.in-Err.ensures) w.in-Ok-insert.ensures.items)
-  | in-Err-insert w ↦ rw w.result-is tt ]
+  | in-Err-insert w ↦ rw w.result-is tt
+]

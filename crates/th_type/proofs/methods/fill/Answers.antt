@@ -15,8 +15,9 @@ loop-k-preserved c =
     let up = up_of c.args.ancestors.now.map.entries in
     let d = named_decl c.at-name.result.0 c.at-name.result.1.now in
     subst (λ ps. Filling (declared_types ds) up c.if-rank.table.map.entries c.args.rank ps) (sym (take_next ds c.loop-k.k d c.at-name.ensures))
-      (elim c.if-rank.branch [
-          then-rank+in_ok-fill_one w ↦ subst (λ (t : Methods). Filling (declared_types ds) up t.map.entries c.args.rank (take c.loop-k.k ds ++ d ∷ [])) (sym w.table-is)
-            (filling_more ds c.requires.formed up c.requires.ascended c.loop-k.table.map.entries w.fill_one.new.table.map.entries (take c.loop-k.k ds) c.args.rank d c.loop-k.invariant (at_in d ds c.loop-k.k c.at-name.ensures) (sym c.rank.ensures ∙ w.if-rank.true) w.in_ok-fill_one.ensures)
-        | else-rank w ↦ subst (λ (t : Methods). Filling (declared_types ds) up t.map.entries c.args.rank (take c.loop-k.k ds ++ d ∷ [])) (sym w.table-is)
-            (filling_skip ds c.requires.formed up c.requires.ascended c.loop-k.table.map.entries (take c.loop-k.k ds) c.args.rank d c.loop-k.invariant (λ e. w.if-rank.false (c.rank.ensures ∙ e))) ])
+    (elim c.if-rank.branch [
+      | then-rank+in_ok-fill_one w ↦ subst (λ (t : Methods). Filling (declared_types ds) up t.map.entries c.args.rank (take c.loop-k.k ds ++ d ∷ [])) (sym w.table-is)
+          (filling_more ds c.requires.formed up c.requires.ascended c.loop-k.table.map.entries w.fill_one.new.table.map.entries (take c.loop-k.k ds) c.args.rank d c.loop-k.invariant (at_in d ds c.loop-k.k c.at-name.ensures) (sym c.rank.ensures ∙ w.if-rank.true) w.in_ok-fill_one.ensures)
+      | else-rank w ↦ subst (λ (t : Methods). Filling (declared_types ds) up t.map.entries c.args.rank (take c.loop-k.k ds ++ d ∷ [])) (sym w.table-is)
+          (filling_skip ds c.requires.formed up c.requires.ascended c.loop-k.table.map.entries (take c.loop-k.k ds) c.args.rank d c.loop-k.invariant (λ e. w.if-rank.false (c.rank.ensures ∙ e)))
+    ])

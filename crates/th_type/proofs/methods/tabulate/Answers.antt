@@ -9,4 +9,4 @@ loop-rank-preserved c = filling_next (defs_of c.args.defs.now) c.requires.formed
 pub returns : goal.returns
 returns c =
     filling_done (defs_of c.args.defs.now) c.requires.formed (up_of c.args.ancestors.now.map.entries) c.requires.ascended c.loop-rank.table.map.entries c.loop-rank.rank
-      (λ n. let b = c.highest-ranks.ensures.bound n in let l = c.loop-rank-test.false in omega (arith, b, l)) c.loop-rank.invariant
+    (λ n. let b = c.highest-ranks.ensures.bound n in let l = c.loop-rank-test.false in omega (arith, b, l)) c.loop-rank.invariant

@@ -12,4 +12,4 @@ decreases-TyList::try_clone l = goal.size-TyList::try_clone l
 abbrev pub invariant-TyList::try_clone-loop-rest : goal.invariant-TyList::try_clone-loop-rest
 invariant-TyList::try_clone-loop-rest l =
     (tys_onto (tys_of l.done) (tys_of l.rest) ≡ tys_of l.fn.self)
-  × (size-TyList l.rest ≤ size-TyList l.fn.self)
+    × (size-TyList l.rest ≤ size-TyList l.fn.self)

@@ -13,4 +13,4 @@ decreases-TyList::is_with l = goal.size-TyList::is_with l
 abbrev pub invariant-TyList::is_with-loop-left : goal.invariant-TyList::is_with-loop-left
 invariant-TyList::is_with-loop-left l =
     (same_tys (subst_tys (args_items l.args) (tys_of l.left)) (tys_of l.right) ≡ same_tys (subst_tys (args_items l.args) (tys_of l.fn.self)) (tys_of l.fn.others))
-  × (size-TyList l.left ≤ size-TyList l.fn.self)
+    × (size-TyList l.left ≤ size-TyList l.fn.self)

@@ -13,4 +13,4 @@ decreases-TyList::with_args l = goal.size-TyList::with_args l
 abbrev pub invariant-TyList::with_args-loop-rest : goal.invariant-TyList::with_args-loop-rest
 invariant-TyList::with_args-loop-rest l =
     (tys_onto (tys_of l.done) (subst_tys (args_items l.args) (tys_of l.rest)) ≡ subst_tys (args_items l.args) (tys_of l.fn.self))
-  × (size-TyList l.rest ≤ size-TyList l.fn.self)
+    × (size-TyList l.rest ≤ size-TyList l.fn.self)

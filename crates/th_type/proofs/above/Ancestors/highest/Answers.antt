@@ -1,6 +1,4 @@
-use Rattle.std.proofs.Common.{◌≡◌, ◌≤◌, ℕ, sym, subst, arith, length, max}
-use Rattle.std.proofs.lemmas.Grind.{common_steps}
-use Rattle.th_type.specs.declared.above.Above.{Above}
+use Rattle.std.proofs.Common.{◌≤◌, sym, subst, arith, length}
 use Rattle.th_type.specs.Tables.{above_of}
 use Rattle.th_type.proofs.Filling.{highest_bound, highest_more, in_take_all}
 use Rattle.th_type.proofs.above.Ancestors.highest.Goals as goal
@@ -15,4 +13,4 @@ loop-k-preserved c = record {
 pub returns-clause-bound : goal.returns-clause-bound
 returns-clause-bound c =
     highest_bound c.args.self.now.map.entries c.loop-k.highest
-      (λ e i. c.loop-k.invariant.bound e (in_take_all e c.loop-k.k c.args.self.now.map.entries (let a = c.len-k-end.ensures.len in let b = c.loop-k-test.false in omega (arith, a, b)) i))
+    (λ e i. c.loop-k.invariant.bound e (in_take_all e c.loop-k.k c.args.self.now.map.entries (let a = c.len-k-end.ensures.len in let b = c.loop-k-test.false in omega (arith, a, b)) i))

@@ -9,4 +9,4 @@ use Rattle.th_type.proofs.known.Tables.judge_written.Given as goal
 abbrev pub invariant-loop-method : goal.invariant-loop-method
 invariant-loop-method l =
     lowest l.found (written_failures (tables_up l.self) (method_in (tables_methods l.self)) (decl_of l.def) (map written_of (drop l.method-index l.def.methods.items)))
-  ≡ lowest l.fn.found (written_failures (tables_up l.self) (method_in (tables_methods l.self)) (decl_of l.def) (map written_of l.def.methods.items))
+    ≡ lowest l.fn.found (written_failures (tables_up l.self) (method_in (tables_methods l.self)) (decl_of l.def) (map written_of l.def.methods.items))
