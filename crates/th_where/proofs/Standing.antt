@@ -1,5 +1,5 @@
 -- What stands for clauses.
-use Rattle.std.proofs.Common.{◌≡◌, ◌∙◌, ℕ, zero, suc, ◌+◌, ◌<◌, ◌≤◌, ◌↔◌, Bool, true, false, List, [], ◌∷◌, ◌++◌, length, map, take, get_or, slice_get, Option, Some, None, refl, ap, sym, subst, ◌⊎◌, inl, inr, arith, IsTrue, MatchOption}
+use Rattle.std.proofs.Common.{◌≡◌, ◌∙◌, ℕ, zero, suc, ◌+◌, ◌<◌, ◌≤◌, ◌↔◌, Bool, true, false, List, [], ◌∷◌, ◌++◌, length, map, take, get_or, slice_get, Option, Some, None, refl, ap, sym, subst, inl, inr, arith, IsTrue, MatchOption}
 use Rattle.std.proofs.lemmas.List.{map-append, take_more}
 use Rattle.th_type.specs.declared.sig.Supply.{Supply}
 use Rattle.th_type.specs.declared.sig.Clause.{Clause}
@@ -7,7 +7,7 @@ use Rattle.th_type.specs.Lists.{IsIn}
 use Rattle.th_type.specs.Types.{TypeExpr}
 use Rattle.th_type.specs.Signatures.{Signature, Constraint, clause_of, subst_sig}
 use Rattle.th_type.specs.Methods.{ExactlyConforms}
-use Rattle.th_type.proofs.Members.{from_append, in_at, at_in, in_map}
+use Rattle.th_type.proofs.Members.{from_append, at_in}
 use Rattle.th_where.specs.declared.candidates.Candidate.{Candidate}
 use Rattle.th_where.specs.declared.candidates.CandidateList.{CandidateList}
 use Rattle.th_where.specs.Supplies.{Offer, offer_of, offers_of, all_offers, IsFound, StandFor, StandsFor, FirstMissing}
@@ -30,8 +30,9 @@ pub none_more : (w : Signature) (cs : List Candidate) (k : ℕ) (d : Candidate) 
 none_more w cs k d r h e c f n x i g =
     let q : offers_of (take (k + 1) cs) ≡ offers_of (take k cs) ++ offer_of d ∷ [] = ap offers_of (take_more cs k d h) ∙ map-append offer_of (take k cs) (get_or cs k d ∷ []) ∙ ap (λ (y : Candidate). offers_of (take k cs) ++ offer_of y ∷ []) (sym e) in
     elim (from_append x (offers_of (take k cs)) (offer_of d ∷ []) (subst (λ xs. IsIn x xs) q i)) [
-        inl j ↦ n x j g
-      | inr j ↦ elim j [ inl s ↦ (let z : r ≡ true = c.1 (subst (λ x. IsFound w x) s g) in absurd (cc)) | inr z ↦ absurd z ] ]
+      | inl j ↦ n x j g
+      | inr j ↦ elim j [ inl s ↦ (let z : r ≡ true = c.1 (subst (λ x. IsFound w x) s g) in absurd (cc)) | inr z ↦ absurd z ]
+    ]
 
 -- what a clause's list of candidates offers
 pub stands_some : (ls : List CandidateList) (args : List TypeExpr) (c : Constraint) (l : CandidateList) (cs : List Candidate) (w : Signature) (s : Supply) → c.param < length ls → l ≡ get_or ls c.param l → cs ≡ l.candidates.items → w ≡ subst_sig args c.sig

@@ -1,5 +1,5 @@
 -- What stands for the where-clauses of an item at a call.
-use Rattle.std.specs.Prelude.{◌≡◌, ℕ, ◌<◌, List, [], ◌∷◌, map, slice_get, Option, Some, None}
+use Rattle.std.specs.Prelude.{◌≡◌, ℕ, ◌<◌, List, [], ◌∷◌, map, slice_get, Some}
 use Rattle.th_type.specs.declared.sig.Supply.{Supply}
 use Rattle.th_type.specs.Lists.{IsIn}
 use Rattle.th_type.specs.Types.{TypeExpr}
@@ -46,4 +46,4 @@ StandFor offers args (c ∷ cs) (s ∷ ss) = StandsFor offers args c s × StandF
 abbrev pub FirstMissing : List (List Offer) → List TypeExpr → List Constraint → ℕ → Type 0
 FirstMissing offers args cs k =
     ((c : Constraint) × (slice_get cs k ≡ Some c) × ((s : Supply) → ¬ StandsFor offers args c s))
-  × ((j : ℕ) (c : Constraint) → j < k → slice_get cs j ≡ Some c → (s : Supply) × StandsFor offers args c s)
+    × ((j : ℕ) (c : Constraint) → j < k → slice_get cs j ≡ Some c → (s : Supply) × StandsFor offers args c s)

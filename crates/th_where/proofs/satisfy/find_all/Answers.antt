@@ -1,4 +1,4 @@
-use Rattle.std.proofs.Common.{map, length, MatchOption}
+use Rattle.std.proofs.Common.{map, length}
 use Rattle.th_type.specs.Types.{ty_of}
 use Rattle.th_where.specs.Supplies.{all_offers}
 use Rattle.th_where.proofs.Standing.{stand_more, first_missing, param_below}
