@@ -1,5 +1,5 @@
 -- The table of supertypes decides the subtype relation.
-use Rattle.std.proofs.Common.{◌≡◌, ◌∙◌, ℕ, zero, suc, ◌+◌, ◌<◌, ◌≤◌, ◌↔◌, Bool, true, false, not, cond, nat_eq, ◌||◌, List, [], ◌∷◌, ◌++◌, length, map, Option, Some, None, option_map, option_copied, Bor, refl, ap, sym, subst, ◌⊎◌, inl, inr, arith, IsTrue}
+use Rattle.std.proofs.Common.{◌≡◌, ◌∙◌, ℕ, zero, ◌↔◌, Bool, true, false, cond, nat_eq, ◌||◌, List, [], ◌∷◌, length, map, Option, Some, None, refl, ap, sym, subst, ◌⊎◌, inl, inr, arith, IsTrue}
 use Rattle.std.proofs.lemmas.Bool.Decides.{nat_tests}
 use Rattle.std.proofs.lemmas.List.{length-map}
 use Rattle.std.specs.Map.{lookup}
@@ -8,14 +8,14 @@ use Rattle.th_type.specs.declared.place.Failure.{Failure}
 use Rattle.th_type.specs.Lists.{IsIn}
 use Rattle.th_type.specs.Types.{TypeExpr, TypeExprs, int_ty, bool_ty, text_ty, array_ty, named_ty, param_ty, list_of, subst_ty, subst_tys, same_ty}
 use Rattle.th_type.specs.Declarations.{Declaration, DeclaredType, declared_types, find_decl, supers_of, members_in, resolved}
-use Rattle.th_type.specs.Subtypes.{parents, Subtype, Reached}
-use Rattle.th_type.specs.Rules.{IsTangled, WellFormed}
-use Rattle.th_type.specs.Closure.{find_head, left, Climbed}
+use Rattle.th_type.specs.Subtypes.{Subtype, Reached}
+use Rattle.th_type.specs.Rules.{IsTangled}
+use Rattle.th_type.specs.Closure.{find_head, Climbed}
 use Rattle.th_type.specs.Judged.{Judging}
-use Rattle.th_type.specs.Tables.{above_of, up_in, up_of, is_found, is_reached, table_subtype}
-use Rattle.th_type.proofs.Members.{in_map, from_map}
+use Rattle.th_type.specs.Tables.{up_in, up_of, is_found, is_reached, table_subtype}
+use Rattle.th_type.proofs.Members.{in_map}
 use Rattle.th_type.proofs.Same.{same_self, same_equal}
-use Rattle.th_type.specs.Fitting.{Fits, Saturated}
+use Rattle.th_type.specs.Fitting.{Fits}
 use Rattle.th_type.proofs.Subtyping.{subtype_to, subtype_from, subtype_self}
 use Rattle.th_type.proofs.Closure.{head_found, head_none, left_none}
 use Rattle.th_type.proofs.Resolved.{supers_resolved, decl_is}

@@ -1,9 +1,8 @@
 -- The steps of the climb to all that a declared type reaches.
-use Rattle.std.proofs.Common.{◌≡◌, ◌∙◌, ℕ, ◌+◌, ◌-◌, ◌<◌, ◌≤◌, Bool, true, false, List, [], ◌∷◌, length, map, slice_get, Option, Some, None, refl, ap, sym, subst, ◌⊎◌, arith}
+use Rattle.std.proofs.Common.{◌≡◌, ◌∙◌, ℕ, ◌+◌, ◌-◌, ◌<◌, Bool, true, false, List, [], length, map, slice_get, Some, ap, sym, subst, ◌⊎◌, arith}
 use Rattle.std.specs.Bool.{MatchBool}
-use Rattle.th_type.specs.Lists.{IsIn}
 use Rattle.th_type.specs.Types.{TypeExpr, TypeExprs, named_ty, no_ty, list_of, subst_ty}
-use Rattle.th_type.specs.Declarations.{SuperRef, Declaration, DeclaredType, declared_types, resolved, members_of, supers_of}
+use Rattle.th_type.specs.Declarations.{SuperRef, Declaration, declared_types, resolved, members_of, supers_of}
 use Rattle.th_type.specs.Subtypes.{parents}
 use Rattle.th_type.specs.Rules.{WellFormed, HasTwo, IsHigh}
 use Rattle.th_type.specs.Closure.{left, Took, Clashes, Climbing, all_taken}

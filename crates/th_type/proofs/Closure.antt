@@ -1,11 +1,11 @@
 -- What is taken into a list of supertypes, and that the list is whole at the end.
-use Rattle.std.proofs.Common.{◌≡◌, ◌≢◌, ◌∙◌, ℕ, zero, suc, ◌+◌, ◌<◌, ◌≤◌, Bool, true, false, nat_eq, List, [], ◌∷◌, ◌++◌, length, map, slice_get, Option, Some, None, refl, ap, sym, subst, ◌⊎◌, inl, inr, arith, if◌then◌else◌, length-append}
+use Rattle.std.proofs.Common.{◌≡◌, ◌≢◌, ◌∙◌, ℕ, zero, suc, ◌+◌, ◌<◌, ◌≤◌, Bool, true, false, nat_eq, List, [], ◌∷◌, ◌++◌, length, map, slice_get, Some, None, refl, ap, sym, subst, ◌⊎◌, inl, inr, arith, if◌then◌else◌, length-append}
 use Rattle.std.proofs.lemmas.List.{length-map}
 use Rattle.std.proofs.lemmas.Bool.Decides.{nat_tests}
 use Rattle.th_type.specs.Lists.{IsIn}
-use Rattle.th_type.specs.Types.{TypeExpr, TypeExprs, int_ty, bool_ty, text_ty, array_ty, named_ty, param_ty, list_of, subst_ty, ty_height}
+use Rattle.th_type.specs.Types.{TypeExpr, TypeExprs, int_ty, bool_ty, text_ty, array_ty, named_ty, param_ty, ty_height}
 use Rattle.th_type.specs.Declarations.{DeclaredType, supers_of}
-use Rattle.th_type.specs.Subtypes.{parents, Climbs, Subtype, Reached, head_of}
+use Rattle.th_type.specs.Subtypes.{parents, Climbs, Reached, head_of}
 use Rattle.th_type.specs.Rules.{HasTwo, IsHigh}
 use Rattle.th_type.specs.Closure.{is_head, find_head, OneEach, one_if_none, left, Distinct, HeadsAmong, Took, Clashes, Climbing, Climbed}
 use Rattle.th_type.proofs.Members.{in_left, in_right, from_append, in_at, at_in, place_in, in_within}

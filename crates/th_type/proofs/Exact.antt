@@ -1,9 +1,9 @@
 -- The tests of signatures decide conforming.
-use Rattle.std.proofs.Common.{◌≡◌, ◌∙◌, ℕ, ◌↔◌, Bool, true, false, nat_eq, ◌&&◌, ◌||◌, List, [], ◌∷◌, ◌++◌, Option, Some, None, refl, ap, sym, subst, ◌⊎◌, inl, inr, arith, IsTrue}
+use Rattle.std.proofs.Common.{◌≡◌, ◌∙◌, ℕ, ◌↔◌, Bool, true, false, nat_eq, ◌&&◌, ◌||◌, List, [], ◌∷◌, Option, Some, None, refl, ap, sym, subst, inl, inr, arith, IsTrue}
 use Rattle.std.proofs.lemmas.Bool.Decides.{nat_tests}
-use Rattle.std.specs.List.{list_any, list_all}
-use Rattle.th_type.specs.Lists.{IsIn, AllIn, is_in}
-use Rattle.th_type.specs.Types.{TypeExpr, same_ty, same_tys}
+use Rattle.std.specs.List.{list_any}
+use Rattle.th_type.specs.Lists.{IsIn, AllIn}
+use Rattle.th_type.specs.Types.{TypeExpr, same_tys}
 use Rattle.th_type.specs.Signatures.{Signature}
 use Rattle.th_type.specs.Methods.{ExactlyConforms, SameSignature}
 use Rattle.th_type.specs.Conforming.{all_in, same_gives, same_bool, exactly, same_sig}

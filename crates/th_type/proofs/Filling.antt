@@ -1,5 +1,5 @@
 -- The table of methods, filled from the lowest types up.
-use Rattle.std.proofs.Common.{◌≡◌, ◌∙◌, ℕ, zero, suc, ◌+◌, ◌<◌, ◌≤◌, Bool, true, false, nat_eq, cond, List, [], ◌∷◌, ◌++◌, length, map, take, get_or, slice_get, Option, Some, None, option_map, is_some, refl, ap, sym, subst, ◌⊎◌, inl, inr, arith, append_assoc, max}
+use Rattle.std.proofs.Common.{◌≡◌, ◌∙◌, ℕ, zero, suc, ◌+◌, ◌<◌, ◌≤◌, Bool, true, false, nat_eq, cond, List, [], ◌∷◌, ◌++◌, length, map, take, get_or, slice_get, Option, Some, None, option_map, is_some, refl, ap, sym, subst, inl, inr, arith, append_assoc, max}
 use Rattle.std.proofs.lemmas.Bool.Decides.{nat_tests}
 use Rattle.std.proofs.lemmas.List.{map-append, take_more}
 use Rattle.std.specs.Map.{lookup}
@@ -13,18 +13,18 @@ use Rattle.th_type.specs.declared.typedef.Supertype.{Supertype}
 use Rattle.th_type.specs.declared.typedef.Written.{Written}
 use Rattle.th_type.specs.declared.typedef.TypeDef.{TypeDef}
 use Rattle.th_type.specs.Lists.{IsIn, or_else, first_some}
-use Rattle.th_type.specs.Types.{TypeExpr, TypeExprs, named_ty, tys_of, list_of}
+use Rattle.th_type.specs.Types.{TypeExpr, named_ty, tys_of, list_of}
 use Rattle.th_type.specs.Signatures.{Signature, sig_of, subst_sig, find_sig}
-use Rattle.th_type.specs.Declarations.{SuperRef, Declaration, DeclaredType, declared_type, declared_types, super_of, meant_of, written_of, named_decl, types_meant, resolved, find_decl, find_type, written_in, supers_of, sigs_of, members_in}
+use Rattle.th_type.specs.Declarations.{SuperRef, Declaration, declared_type, declared_types, super_of, meant_of, written_of, named_decl, types_meant, resolved, find_decl, written_in, supers_of, sigs_of, members_in}
 use Rattle.th_type.specs.Methods.{applied, method_up, method_of}
 use Rattle.th_type.specs.Rules.{WellFormed}
 use Rattle.th_type.specs.Judged.{Ascended}
 use Rattle.th_type.specs.Tables.{above_of, up_in, up_of}
 use Rattle.th_type.specs.MethodTables.{Rising, Merged, sigs_in, methods_in, method_in, Joined, Settled, Put, Filling, MethodsRight, written_sigs}
-use Rattle.th_type.proofs.Members.{in_map, in_left, in_right, from_append, at_in}
+use Rattle.th_type.proofs.Members.{in_map, from_append}
 use Rattle.th_type.proofs.MethodLists.{or_assoc, find_subst}
 use Rattle.th_type.proofs.Resolved.{type_found, supers_resolved, decl_there, decl_is, name_among, heads_among}
-use Rattle.th_type.proofs.Ascent.{look_in, absent_supers}
+use Rattle.th_type.proofs.Ascent.{absent_supers}
 use Rattle.th_type.proofs.Judging.{look_push, take_next}
 use Rattle.th_type.proofs.Ranks.{rank_less, rank_bound}
 

@@ -1,29 +1,28 @@
 -- The tests over tables decide the rule on inherited methods.
-use Rattle.std.proofs.Common.{◌≡◌, ◌∙◌, ℕ, zero, suc, ◌+◌, ◌<◌, ◌≤◌, ◌↔◌, Bool, true, false, not, nat_eq, ◌&&◌, ◌||◌, List, [], ◌∷◌, ◌++◌, length, map, Option, Some, None, option_map, refl, ap, sym, subst, ◌⊎◌, inl, inr, arith, IsTrue, if◌then◌else◌}
+use Rattle.std.proofs.Common.{◌≡◌, ◌∙◌, ℕ, suc, Bool, true, false, not, nat_eq, ◌&&◌, ◌||◌, List, [], ◌∷◌, length, map, Option, Some, None, option_map, refl, ap, sym, subst, ◌⊎◌, inl, inr, arith, if◌then◌else◌}
 use Rattle.std.proofs.lemmas.Bool.Decides.{nat_tests}
 use Rattle.std.specs.List.{list_any, list_all}
 use Rattle.std.specs.Global.{Vec}
 use Rattle.th_type.specs.declared.place.Failure.{Failure}
 use Rattle.th_type.specs.declared.sig.Sig.{Sig}
-use Rattle.th_type.specs.Lists.{IsIn, AllIn, is_in, or_else, first_some}
-use Rattle.th_type.specs.Types.{TypeExpr, TypeExprs, int_ty, bool_ty, text_ty, array_ty, named_ty, param_ty, list_of, same_ty, same_tys}
+use Rattle.th_type.specs.Lists.{IsIn, is_in, or_else, first_some}
+use Rattle.th_type.specs.Types.{TypeExpr, TypeExprs, int_ty, bool_ty, text_ty, array_ty, named_ty, param_ty, list_of, same_tys}
 use Rattle.th_type.specs.Signatures.{Signature, subst_sig, find_sig}
-use Rattle.th_type.specs.Declarations.{WrittenSig, Declaration, DeclaredType, declared_type, declared_types, resolved, supers_of, sigs_of, find_decl}
+use Rattle.th_type.specs.Declarations.{WrittenSig, Declaration, DeclaredType, declared_type, declared_types, resolved, supers_of, sigs_of}
 use Rattle.th_type.specs.Failures.{place, failure, lowest, unless, IsLeastOf}
-use Rattle.th_type.specs.Subtypes.{Subtype, Reached}
-use Rattle.th_type.specs.Methods.{applied, method_up, method_of, method_at, ResultFits, GivesFits, IsParam, GivesParam, ResultIsParam, Conforms, SameSignature}
+use Rattle.th_type.specs.Subtypes.{Reached}
+use Rattle.th_type.specs.Methods.{applied, method_up, method_at, GivesFits, IsParam, GivesParam, ResultIsParam, Conforms, SameSignature}
 use Rattle.th_type.specs.Rules.{WellFormed, Misfits, Differs, FailsMethods, MethodsFail}
-use Rattle.th_type.specs.Closure.{Climbed}
 use Rattle.th_type.specs.Judged.{Ascended}
 use Rattle.th_type.specs.Tables.{table_subtype}
-use Rattle.th_type.specs.Conforming.{all_in, same_gives, same_bool, exactly, same_sig, is_param_ty}
+use Rattle.th_type.specs.Conforming.{all_in, same_gives, same_bool, same_sig, is_param_ty}
 use Rattle.th_type.specs.MethodTables.{Rising, methods_in, method_in, MethodsRight}
-use Rattle.th_type.specs.Tests.{param_given, gives_param, param_at, is_fixed, gives_within, gives_fit, conforms_test, fits_found, fits_type, fits_all, written_failures, agrees_found, agrees_sig, agrees_type, agrees_all, def_failures, all_failures}
-use Rattle.th_type.proofs.Members.{in_map, from_map, in_left, in_right, from_append, is_in_true, in_is_true}
+use Rattle.th_type.specs.Tests.{param_given, gives_param, param_at, is_fixed, gives_fit, conforms_test, fits_found, fits_type, fits_all, written_failures, agrees_found, agrees_sig, agrees_type, agrees_all, def_failures, all_failures}
+use Rattle.th_type.proofs.Members.{in_map, from_map, in_left, in_right, from_append}
 use Rattle.th_type.proofs.Same.{both, same_equal, same_self, sames_equal, sames_self}
 use Rattle.th_type.proofs.Exact.{both_true, all_in_to, all_in_from, gives_to, gives_from, bool_to, bool_from, same_to, same_from}
 use Rattle.th_type.proofs.Least.{least_alike, least_lowest}
-use Rattle.th_type.proofs.Ascent.{Ascends, table_decides}
+use Rattle.th_type.proofs.Ascent.{table_decides}
 use Rattle.th_type.proofs.Resolved.{well_formed_fits, decl_there, heads_among}
 use Rattle.th_type.proofs.Ranks.{rank_less}
 use Rattle.th_type.proofs.Filling.{find_written, find_supers, first_same, names_to}

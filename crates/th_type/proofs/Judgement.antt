@@ -1,5 +1,5 @@
 -- The judgement as a whole.
-use Rattle.std.proofs.Common.{◌≡◌, ◌∙◌, ℕ, List, map, Option, Some, None, refl, ap, sym, subst, inl, inr}
+use Rattle.std.proofs.Common.{◌≡◌, ◌∙◌, ℕ, List, map, Option, Some, None, ap, sym, subst, inl, inr}
 use Rattle.std.specs.Global.{Vec}
 use Rattle.std.specs.Ordering.{nat_cmp}
 use Rattle.std.specs.List.Sorted.{IsSorted, IsPermutation}
@@ -10,7 +10,7 @@ use Rattle.th_type.specs.declared.place.Failure.{Failure}
 use Rattle.th_type.specs.declared.typedef.TypeDef.{TypeDef}
 use Rattle.th_type.specs.Types.{TypeExpr, ty_of}
 use Rattle.th_type.specs.Signatures.{Signature, sig_of}
-use Rattle.th_type.specs.Declarations.{Declaration, DeclaredType, declared_type, declared_types, named_decl, super_of, written_of, resolved}
+use Rattle.th_type.specs.Declarations.{Declaration, DeclaredType, declared_type, declared_types, named_decl, super_of, resolved}
 use Rattle.th_type.specs.Failures.{lowest, IsLeastOf}
 use Rattle.th_type.specs.Rules.{WellFormed, FailsFirst, MethodsFail, IsNamed, NoneFails}
 use Rattle.th_type.specs.Judged.{Judging, Ascended}
@@ -18,7 +18,7 @@ use Rattle.th_type.specs.Tables.{up_of}
 use Rattle.th_type.specs.Tests.{all_failures}
 use Rattle.th_type.specs.MethodTables.{MethodsRight, written_sigs}
 use Rattle.th_type.specs.LatticeRight.{LatticeRight}
-use Rattle.th_type.specs.Rows.{row_of, rows_of}
+use Rattle.th_type.specs.Rows.{row_of}
 use Rattle.th_type.proofs.Ascent.{ascends, untangled}
 use Rattle.th_type.proofs.Resolved.{well_formed_fits}
 use Rattle.th_type.proofs.Inherit.{methods_least}

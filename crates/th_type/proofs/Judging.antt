@@ -1,5 +1,5 @@
 -- The judgement of supertypes.
-use Rattle.std.proofs.Common.{◌≡◌, ◌∙◌, ℕ, zero, suc, ◌+◌, ◌<◌, ◌≤◌, ◌↔◌, Bool, true, false, not, cond, nat_eq, ◌||◌, List, [], ◌∷◌, ◌++◌, length, map, take, drop, get_or, slice_get, Option, Some, None, refl, ap, sym, subst, ◌⊎◌, inl, inr, arith, if◌then◌else◌, append_assoc, IsTrue}
+use Rattle.std.proofs.Common.{◌≡◌, ◌∙◌, ℕ, zero, suc, ◌+◌, ◌<◌, ◌↔◌, Bool, true, false, not, cond, nat_eq, ◌||◌, List, [], ◌∷◌, ◌++◌, length, map, take, drop, get_or, slice_get, Option, Some, None, refl, ap, sym, subst, ◌⊎◌, inl, inr, arith, if◌then◌else◌, IsTrue}
 use Rattle.std.proofs.lemmas.Bool.Decides.{nat_tests}
 use Rattle.std.proofs.lemmas.List.{map-append}
 use Rattle.std.proofs.Math.Seq.{drop-cons}
@@ -21,7 +21,7 @@ use Rattle.th_type.specs.Rules.{names_meant, member_failures, list_failures, Nam
 use Rattle.th_type.specs.Closure.{Climbed}
 use Rattle.th_type.specs.Tables.{above_of}
 use Rattle.th_type.specs.Judged.{SameNumbers, Listed, Judged, FailsAmong, Judging}
-use Rattle.th_type.proofs.Members.{in_map, in_left, in_right, from_append, at_in}
+use Rattle.th_type.proofs.Members.{in_left, in_right, from_append, at_in}
 use Rattle.th_type.proofs.Least.{least_alike, least_lowest, lowest_append, up_to_self}
 use Rattle.th_type.proofs.Noting.{any_in}
 use Rattle.th_type.proofs.Closure.{climbed_none}

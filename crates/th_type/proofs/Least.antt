@@ -1,10 +1,9 @@
 -- What is kept of failures is the least of them.
-use Rattle.std.proofs.Common.{◌≡◌, ℕ, ◌<◌, ◌≤◌, Bool, true, false, List, [], ◌∷◌, ◌++◌, Option, Some, None, refl, sym, subst, ◌⊎◌, inl, inr, arith, if◌then◌else◌}
+use Rattle.std.proofs.Common.{◌≡◌, Bool, true, false, List, [], ◌∷◌, ◌++◌, Option, Some, None, refl, sym, subst, ◌⊎◌, inl, inr, arith, if◌then◌else◌}
 use Rattle.std.proofs.lemmas.Bool.Decides.{nat_tests}
-use Rattle.th_type.specs.declared.place.Place.{Place}
 use Rattle.th_type.specs.declared.place.Failure.{Failure}
 use Rattle.th_type.specs.Lists.{IsIn}
-use Rattle.th_type.specs.Failures.{failure, before, lower, lowest, unless, UpTo, IsLeastOf}
+use Rattle.th_type.specs.Failures.{before, lower, lowest, UpTo, IsLeastOf}
 
 up_to_trans : (f g h : Failure) → UpTo f g → UpTo g h → UpTo f h
 up_to_trans f g h a b = grind arith

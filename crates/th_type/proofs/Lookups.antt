@@ -6,7 +6,7 @@ use Rattle.std.specs.Map.{lookup}
 use Rattle.th_type.specs.declared.ty.TyList.{TyList}
 use Rattle.th_type.specs.declared.typedef.TypeDef.{TypeDef}
 use Rattle.th_type.specs.Lists.{IsIn}
-use Rattle.th_type.specs.Types.{TypeExpr, named_ty, tys_of}
+use Rattle.th_type.specs.Types.{named_ty, tys_of}
 use Rattle.th_type.specs.Declarations.{Declaration, named_decl, decl_of, decls_of, find_decl}
 use Rattle.th_type.specs.Closure.{find_head}
 use Rattle.th_type.specs.Tables.{entry_ty, entry_decl}

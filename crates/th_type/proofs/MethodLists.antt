@@ -1,15 +1,14 @@
 -- Ascending lists of signatures.
-use Rattle.std.proofs.Common.{◌≡◌, ◌∙◌, ℕ, zero, suc, ◌+◌, ◌<◌, ◌≤◌, Bool, true, false, nat_eq, List, [], ◌∷◌, ◌++◌, length, map, take, drop, get_or, slice_get, Option, Some, None, option_map, refl, ap, sym, subst, ◌⊎◌, inl, inr, arith, if◌then◌else◌, take-append-drop}
+use Rattle.std.proofs.Common.{◌≡◌, ◌∙◌, ℕ, zero, suc, ◌+◌, ◌<◌, ◌≤◌, Bool, true, false, nat_eq, List, [], ◌∷◌, ◌++◌, length, map, take, drop, get_or, slice_get, Option, Some, None, option_map, refl, ap, sym, subst, inl, inr, arith, if◌then◌else◌, take-append-drop}
 use Rattle.std.proofs.lemmas.Bool.Decides.{nat_tests}
 use Rattle.std.proofs.lemmas.List.{map-append, take_more, length-map}
-use Rattle.std.specs.List.{insert}
 use Rattle.th_type.specs.declared.sig.Sig.{Sig}
-use Rattle.th_type.specs.Lists.{IsIn, or_else, first_some}
+use Rattle.th_type.specs.Lists.{IsIn, or_else}
 use Rattle.th_type.specs.Types.{TypeExpr}
 use Rattle.th_type.specs.Signatures.{Signature, sig_of, subst_sig, find_sig}
 use Rattle.th_type.specs.declared.typedef.Written.{Written}
 use Rattle.th_type.specs.MethodTables.{Rising, FoundAt, GoesAt, Merged, written_sigs}
-use Rattle.th_type.proofs.Members.{in_map, from_map, in_left, in_right, from_append, in_at, at_in, in_within}
+use Rattle.th_type.proofs.Members.{from_append, in_at, at_in, in_within}
 
 pub get_at : {A B : Type 0} (f : A → B) (xs : List A) (k : ℕ) (d : A) → k < length xs → d ≡ get_or xs k d → slice_get (map f xs) k ≡ Some (f d)
 get_at f [] k d h e = absurd (omega (arith, h))

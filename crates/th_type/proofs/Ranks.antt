@@ -1,17 +1,15 @@
 -- A declared type reaches more types than each of its supertypes.
-use Rattle.std.proofs.Common.{◌≡◌, ◌∙◌, ℕ, zero, suc, ◌+◌, ◌<◌, ◌≤◌, Bool, true, false, nat_eq, List, [], ◌∷◌, ◌++◌, length, map, Option, Some, None, refl, ap, sym, subst, ◌⊎◌, inl, inr, arith}
-use Rattle.std.proofs.lemmas.Bool.Decides.{nat_tests}
+use Rattle.std.proofs.Common.{◌≡◌, ◌∙◌, ℕ, zero, suc, ◌+◌, ◌<◌, ◌≤◌, List, [], ◌∷◌, length, map, Option, Some, None, refl, ap, sym, subst, inl, inr, arith}
 use Rattle.th_type.specs.Lists.{IsIn}
 use Rattle.th_type.specs.Types.{TypeExpr, TypeExprs, named_ty, list_of, subst_ty, subst_tys}
 use Rattle.th_type.specs.Declarations.{Meant, unresolved, parameter, by_head, whole, SuperRef, Declaration, DeclaredType, declared_types, types_meant, resolved, members_of, supers_of}
-use Rattle.th_type.specs.Subtypes.{parents, Climbs, Subtype, Reached}
-use Rattle.th_type.specs.Rules.{names_meant, named, names_up, NameClimbs, ReachesItself, IsTangled, WellFormed}
-use Rattle.th_type.specs.Closure.{find_head, one_if_none, left, Climbed}
+use Rattle.th_type.specs.Subtypes.{Climbs, Subtype, Reached}
+use Rattle.th_type.specs.Rules.{names_meant, named, names_up, NameClimbs, WellFormed}
+use Rattle.th_type.specs.Closure.{find_head, one_if_none, left}
 use Rattle.th_type.specs.Judged.{Ascended}
 use Rattle.th_type.proofs.Members.{from_map, in_left, in_right, from_append}
-use Rattle.th_type.specs.Fitting.{Fits}
 use Rattle.th_type.proofs.Subtyping.{subtype_to}
-use Rattle.th_type.proofs.Resolved.{supers_resolved, name_among, well_formed_fits, heads_among}
+use Rattle.th_type.proofs.Resolved.{supers_resolved, well_formed_fits, heads_among}
 use Rattle.th_type.proofs.Closure.{head_found, head_none}
 
 meant_named : (m : Meant) (n : ℕ) (ts : TypeExprs) → IsIn (named_ty n ts) (types_meant m) → IsIn n (names_meant m)

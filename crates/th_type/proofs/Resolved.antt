@@ -1,7 +1,6 @@
 -- Declared types without their places.
-use Rattle.std.proofs.Common.{◌≡◌, ◌∙◌, ℕ, Bool, true, false, nat_eq, List, [], ◌∷◌, ◌++◌, length, map, Option, Some, None, option_map, refl, ap, sym, subst, ◌⊎◌, inl, inr, arith, if◌then◌else◌}
+use Rattle.std.proofs.Common.{◌≡◌, ◌∙◌, ℕ, Bool, true, false, nat_eq, List, [], ◌∷◌, length, map, Option, Some, None, option_map, refl, ap, sym, subst, inl, inr, arith, if◌then◌else◌}
 use Rattle.std.proofs.lemmas.Bool.Decides.{nat_tests}
-use Rattle.std.proofs.lemmas.List.{length-map}
 use Rattle.th_type.specs.Lists.{IsIn}
 use Rattle.th_type.specs.Types.{TypeExpr, TypeExprs, int_ty, bool_ty, text_ty, array_ty, named_ty, param_ty, list_of, subst_ty, subst_tys, ParamsBelow, AllParamsBelow}
 use Rattle.th_type.specs.Declarations.{Meant, unresolved, parameter, by_head, whole, SuperRef, Declaration, DeclaredType, declared_type, declared_types, types_meant, resolved, find_decl, find_type, members_in, members_of, supertypes_in, supers_of, params_in, params_of}

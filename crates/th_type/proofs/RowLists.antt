@@ -1,12 +1,12 @@
 -- What is looked up of declared types.
-use Rattle.std.proofs.Common.{◌≡◌, ◌∙◌, ℕ, ◌+◌, ◌<◌, Bool, true, false, nat_eq, cond, List, [], ◌∷◌, ◌++◌, length, map, take, get_or, slice_get, Option, Some, None, option_map, option_copied, Bor, refl, ap, sym, subst, if◌then◌else◌, arith}
+use Rattle.std.proofs.Common.{◌≡◌, ◌∙◌, ℕ, ◌+◌, ◌<◌, Bool, true, false, nat_eq, cond, List, [], ◌∷◌, ◌++◌, length, map, take, get_or, slice_get, Option, Some, None, option_map, option_copied, Bor, refl, ap, sym, if◌then◌else◌, arith}
 use Rattle.std.proofs.lemmas.Bool.Decides.{nat_tests}
 use Rattle.std.proofs.lemmas.List.{map-append}
 use Rattle.std.specs.Map.{lookup}
 use Rattle.th_type.specs.declared.rows.Row.{Row}
 use Rattle.th_type.specs.declared.typedef.Supertype.{Supertype}
-use Rattle.th_type.specs.Types.{TypeExpr, ty_of}
-use Rattle.th_type.specs.Declarations.{Declaration, DeclaredType, declared_type, declared_types, super_of, meant_of, types_meant, resolved, find_type, supertypes_in, written_in, params_in}
+use Rattle.th_type.specs.Types.{TypeExpr}
+use Rattle.th_type.specs.Declarations.{Declaration, DeclaredType, declared_type, declared_types, super_of, meant_of, types_meant, resolved, find_type}
 use Rattle.th_type.specs.Rules.{NamesDiffer}
 use Rattle.th_type.specs.Rows.{row_of, rows_of}
 use Rattle.th_type.proofs.Judging.{next_absent, take_next}

@@ -1,8 +1,8 @@
 -- Laws of the subtype relation.
-use Rattle.std.proofs.Common.{◌≡◌, ℕ, zero, suc, ◌<◌, ◌≤◌, ◌+◌, List, [], ◌∷◌, length, map, refl, ap, sym, ◌∙◌, subst, ◌⊎◌, inl, inr, arith}
+use Rattle.std.proofs.Common.{◌≡◌, ℕ, zero, suc, List, [], length, map, refl, ap, sym, ◌∙◌, subst, ◌⊎◌, inl, inr}
 use Rattle.std.proofs.lemmas.List.{length-map}
 use Rattle.th_type.specs.Lists.{IsIn}
-use Rattle.th_type.specs.Types.{TypeExpr, int_ty, bool_ty, text_ty, array_ty, named_ty, param_ty, TypeExprs, list_of, subst_ty, subst_tys, ParamsBelow}
+use Rattle.th_type.specs.Types.{TypeExpr, named_ty, TypeExprs, list_of, subst_ty, subst_tys, ParamsBelow}
 use Rattle.th_type.specs.Declarations.{DeclaredType, supers_of, params_of}
 use Rattle.th_type.specs.Subtypes.{parents, Climbs, Subtype, Reached}
 use Rattle.th_type.specs.Fitting.{Saturated, Fits}

@@ -1,18 +1,17 @@
 -- The types that are taken of a list of supertypes.
-use Rattle.std.proofs.Common.{◌≡◌, ◌∙◌, ◌≢◌, ℕ, ◌+◌, ◌<◌, ◌≤◌, Bool, true, false, List, [], ◌∷◌, ◌++◌, length, map, take, drop, get_or, Option, Some, None, refl, ap, sym, subst, arith, append_assoc, take-append-drop}
+use Rattle.std.proofs.Common.{◌≡◌, ◌∙◌, ℕ, ◌+◌, ◌<◌, ◌≤◌, Bool, true, false, List, [], ◌∷◌, ◌++◌, length, map, take, drop, get_or, Some, None, refl, ap, sym, subst, arith, append_assoc, take-append-drop}
 use Rattle.std.specs.Bool.{MatchBool}
 use Rattle.std.proofs.lemmas.List.{take_more, map-append}
-use Rattle.std.proofs.Math.Seq.{drop-cons}
 use Rattle.th_type.specs.declared.ty.TyList.{TyList}
 use Rattle.th_type.specs.declared.typedef.Meaning.{Meaning}
 use Rattle.th_type.specs.declared.typedef.Meaning.TheVariants.{Whole}
 use Rattle.th_type.specs.declared.typedef.Supertype.{Supertype}
-use Rattle.th_type.specs.Types.{TypeExpr, TypeExprs, named_ty, tys_of, list_of, subst_ty, subst_tys, ty_height, tys_height, same_tys}
-use Rattle.th_type.specs.Declarations.{Meant, SuperRef, meant_of, super_of, types_meant, resolved}
+use Rattle.th_type.specs.Types.{TypeExpr, TypeExprs, named_ty, tys_of, list_of, subst_ty, subst_tys, tys_height, same_tys}
+use Rattle.th_type.specs.Declarations.{SuperRef, meant_of, super_of, types_meant, resolved}
 use Rattle.th_type.specs.Closure.{find_head, Took, Clashes, taken, all_taken}
 use Rattle.th_type.proofs.Same.{sames_equal, sames_self}
 use Rattle.th_type.proofs.Substitution.{subst_none}
-use Rattle.th_type.proofs.Closure.{took_none, took_push, took_known, took_then, clash_high, clash_two, clash_first, clash_then}
+use Rattle.th_type.proofs.Closure.{took_push, took_known, took_then, clash_high, clash_two, clash_first, clash_then}
 
 pub taken_whole : (args : TypeExprs) (m : Meaning) (n : ℕ) (list : TyList) (ts : TypeExprs) → m ≡ Whole n list → ts ≡ subst_tys (list_of args) (tys_of list) → taken args (meant_of m) ≡ named_ty n ts ∷ []
 taken_whole args m n list ts e f = rw e (ap (λ us. named_ty n us ∷ []) (sym f))

@@ -1,5 +1,5 @@
 -- The loops of the tests of signatures.
-use Rattle.std.proofs.Common.{◌≡◌, ◌∙◌, ℕ, zero, suc, ◌+◌, ◌<◌, ◌≤◌, Bool, true, false, nat_eq, ◌&&◌, ◌||◌, List, [], ◌∷◌, ◌++◌, length, map, take, drop, get_or, slice_get, Option, Some, None, option_map, refl, ap, sym, subst, arith, append_assoc, take-append-drop}
+use Rattle.std.proofs.Common.{◌≡◌, ◌∙◌, ℕ, zero, suc, ◌+◌, ◌<◌, Bool, true, false, nat_eq, ◌&&◌, ◌||◌, List, [], ◌∷◌, ◌++◌, length, map, take, drop, get_or, slice_get, Option, Some, option_map, refl, ap, sym, arith, append_assoc, take-append-drop}
 use Rattle.std.proofs.lemmas.List.{map-append, take_more}
 use Rattle.std.proofs.Math.Seq.{drop-cons}
 use Rattle.std.specs.List.{list_any, list_all}
@@ -13,7 +13,7 @@ use Rattle.th_type.specs.declared.typedef.Meaning.TheVariants.{Whole}
 use Rattle.th_type.specs.declared.typedef.Supertype.{Supertype}
 use Rattle.th_type.specs.declared.typedef.Written.{Written}
 use Rattle.th_type.specs.declared.typedef.TypeDef.{TypeDef}
-use Rattle.th_type.specs.Lists.{IsIn, is_in}
+use Rattle.th_type.specs.Lists.{is_in}
 use Rattle.th_type.specs.Types.{TypeExpr, int_ty, bool_ty, text_ty, array_ty, named_ty, param_ty, tys_of, list_of}
 use Rattle.th_type.specs.Signatures.{Signature, sig_of, subst_sig}
 use Rattle.th_type.specs.Declarations.{SuperRef, WrittenSig, Declaration, named_decl, super_of, written_of, meant_of, types_meant, resolved}

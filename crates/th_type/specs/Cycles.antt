@@ -1,5 +1,5 @@
 -- What a list of names holds on the way to all that a type reaches by name.
-use Rattle.std.specs.Prelude.{◌≡◌, ℕ, suc, ◌+◌, ◌<◌, ◌≤◌, Bool, true, false, ◌⊎◌, List, [], ◌∷◌, length, map, slice_get, Option, Some, None, if◌then◌else◌}
+use Rattle.std.specs.Prelude.{◌≡◌, ℕ, suc, ◌+◌, ◌<◌, ◌≤◌, ◌⊎◌, List, [], ◌∷◌, length, slice_get, Some, if◌then◌else◌}
 use Rattle.th_type.specs.Lists.{IsIn, AllIn, is_in}
 use Rattle.th_type.specs.Declarations.{Declaration}
 use Rattle.th_type.specs.Rules.{names_up, NameClimbs}

@@ -1,14 +1,13 @@
 -- Declared types, without where they lie in memory.
-use Rattle.std.specs.Prelude.{◌≡◌, ℕ, ◌<◌, Bool, nat_eq, List, [], ◌∷◌, ◌++◌, map, Option, Some, None, length, if◌then◌else◌}
+use Rattle.std.specs.Prelude.{ℕ, nat_eq, List, [], ◌∷◌, ◌++◌, map, Option, Some, None, if◌then◌else◌}
 use Rattle.th_type.specs.declared.place.Place.{Place}
 use Rattle.th_type.specs.declared.typedef.Meaning.{Meaning}
 use Rattle.th_type.specs.declared.typedef.Meaning.TheVariants.{Unresolved, Param, Head, Whole}
 use Rattle.th_type.specs.declared.typedef.Supertype.{Supertype}
 use Rattle.th_type.specs.declared.typedef.Written.{Written}
 use Rattle.th_type.specs.declared.typedef.TypeDef.{TypeDef}
-use Rattle.th_type.specs.Types.{TypeExpr, TypeExprs, named_ty, tys_of, list_of, ParamsBelow, AllParamsBelow}
+use Rattle.th_type.specs.Types.{TypeExpr, TypeExprs, named_ty, tys_of}
 use Rattle.th_type.specs.Signatures.{Signature, sig_of}
-use Rattle.th_type.specs.Lists.{IsIn}
 
 -- what stands in a list of supertypes: nothing that can stand there, a type parameter, a declared type by its name
 -- alone where its arguments do not resolve or are not as many as its parameters, or a declared type with its arguments

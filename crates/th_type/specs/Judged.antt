@@ -1,5 +1,5 @@
 -- What was judged of declared types.
-use Rattle.std.specs.Prelude.{◌≡◌, ℕ, Bool, true, ◌⊎◌, List, [], ◌∷◌, ◌++◌, map, Option, Some, None, nat_eq}
+use Rattle.std.specs.Prelude.{◌≡◌, ℕ, Bool, true, ◌⊎◌, List, [], ◌++◌, map, Option, Some, None, nat_eq}
 use Rattle.std.specs.Bool.{MatchBool}
 use Rattle.std.specs.Map.{lookup}
 use Rattle.th_type.specs.declared.place.Failure.{Failure}
@@ -7,7 +7,7 @@ use Rattle.th_type.specs.declared.above.Above.{Above}
 use Rattle.th_type.specs.Lists.{IsIn, is_in}
 use Rattle.th_type.specs.Types.{TypeExpr}
 use Rattle.th_type.specs.Failures.{lowest, unless, IsLeastOf}
-use Rattle.th_type.specs.Declarations.{SuperRef, Declaration, DeclaredType, declared_types}
+use Rattle.th_type.specs.Declarations.{SuperRef, Declaration, declared_types}
 use Rattle.th_type.specs.Rules.{names_meant, member_failures, list_failures, IsTangled, FailsSupertypes}
 use Rattle.th_type.specs.Closure.{Climbed}
 use Rattle.th_type.specs.Tables.{above_of}

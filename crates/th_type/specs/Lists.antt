@@ -1,5 +1,5 @@
 -- Members of lists.
-use Rattle.std.specs.Prelude.{◌≡◌, ℕ, Bool, true, false, nat_eq, ◌||◌, ◌⊎◌, List, [], ◌∷◌, Option, Some, None}
+use Rattle.std.specs.Prelude.{◌≡◌, ℕ, Bool, false, nat_eq, ◌||◌, ◌⊎◌, List, [], ◌∷◌, Option, Some, None}
 
 -- x is one of the list
 abbrev pub IsIn : {A : Type 0} → A → List A → Type 0

@@ -1,5 +1,5 @@
 -- Tables of methods.
-use Rattle.std.specs.Prelude.{◌≡◌, ℕ, suc, ◌+◌, ◌<◌, ◌≤◌, nat_eq, List, [], ◌∷◌, ◌++◌, ◌⊎◌, length, map, take, drop, slice_get, Option, Some, None}
+use Rattle.std.specs.Prelude.{◌≡◌, ℕ, ◌<◌, ◌≤◌, nat_eq, List, [], ◌∷◌, ◌++◌, ◌⊎◌, length, map, take, drop, slice_get, Option, Some, None}
 use Rattle.std.specs.Map.{lookup}
 use Rattle.std.specs.Global.{Vec}
 use Rattle.th_type.specs.declared.sig.Sig.{Sig}
@@ -7,7 +7,7 @@ use Rattle.th_type.specs.declared.typedef.Written.{Written}
 use Rattle.th_type.specs.Lists.{IsIn, or_else, first_some}
 use Rattle.th_type.specs.Types.{TypeExpr}
 use Rattle.th_type.specs.Signatures.{Signature, sig_of, find_sig}
-use Rattle.th_type.specs.Declarations.{SuperRef, Declaration, DeclaredType, declared_types, resolved}
+use Rattle.th_type.specs.Declarations.{Declaration, DeclaredType, resolved}
 use Rattle.th_type.specs.Methods.{applied, method_up, method_of}
 
 -- the methods' numbers ascend

@@ -1,5 +1,5 @@
 -- The methods of a type, and conforming.
-use Rattle.std.specs.Prelude.{◌≡◌, ℕ, zero, suc, Bool, true, false, ◌⊎◌, List, [], ◌∷◌, length, map, Option, Some, None, option_map}
+use Rattle.std.specs.Prelude.{◌≡◌, ℕ, zero, suc, Bool, true, false, ◌⊎◌, List, length, Option, Some, None, option_map}
 use Rattle.th_type.specs.Types.{TypeExpr, TypeExprs, int_ty, bool_ty, text_ty, array_ty, named_ty, param_ty, list_of}
 use Rattle.th_type.specs.Signatures.{Signature, subst_sig, find_sig}
 use Rattle.th_type.specs.Declarations.{DeclaredType, supers_of, sigs_of}

@@ -1,6 +1,5 @@
 -- The rules on supertypes and inherited methods, as the failures that a list of declared types has.
-use Rattle.std.specs.Prelude.{◌≡◌, ◌≢◌, ℕ, zero, suc, ◌<◌, Bool, not, ◌⊎◌, List, [], ◌∷◌, ◌++◌, Option, Some, None, if◌then◌else◌, nat_eq, length}
-use Rattle.th_type.specs.declared.place.Place.{Place}
+use Rattle.std.specs.Prelude.{◌≡◌, ◌≢◌, ℕ, zero, suc, ◌<◌, not, ◌⊎◌, List, [], ◌∷◌, ◌++◌, Option, Some, None, length}
 use Rattle.th_type.specs.declared.place.Failure.{Failure}
 use Rattle.th_type.specs.Failures.{place, failure, unless, IsLeastOf}
 use Rattle.th_type.specs.Lists.{IsIn, is_in}

@@ -1,6 +1,6 @@
 -- The subtype relation over declared types.
-use Rattle.std.specs.Prelude.{◌≡◌, ℕ, zero, suc, ◌<◌, List, [], map, Option, Some, None}
-use Rattle.th_type.specs.Types.{TypeExpr, TypeExprs, int_ty, bool_ty, text_ty, array_ty, named_ty, param_ty, list_of, subst_ty, ty_height}
+use Rattle.std.specs.Prelude.{◌≡◌, ℕ, zero, suc, List, [], map, Option, Some, None}
+use Rattle.th_type.specs.Types.{TypeExpr, int_ty, bool_ty, text_ty, array_ty, named_ty, param_ty, list_of, subst_ty}
 use Rattle.th_type.specs.Declarations.{DeclaredType, supers_of}
 use Rattle.th_type.specs.Lists.{IsIn}
 

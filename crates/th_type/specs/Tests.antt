@@ -9,7 +9,7 @@ use Rattle.th_type.specs.Types.{TypeExpr, int_ty, bool_ty, text_ty, array_ty, na
 use Rattle.th_type.specs.Signatures.{Signature, subst_sig}
 use Rattle.th_type.specs.Declarations.{WrittenSig, Declaration, resolved}
 use Rattle.th_type.specs.Failures.{place, unless}
-use Rattle.th_type.specs.Conforming.{all_in, same_gives, same_bool, exactly, same_sig, is_param_ty}
+use Rattle.th_type.specs.Conforming.{all_in, same_gives, same_bool, same_sig, is_param_ty}
 use Rattle.th_type.specs.MethodTables.{Rising, methods_in, method_in}
 use Rattle.th_type.specs.Tables.{table_subtype}
 

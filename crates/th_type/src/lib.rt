@@ -22,6 +22,6 @@ pub use clauses::{ClauseList, SupplyList};
 pub use lattice::{Lattice, LatticeError};
 pub use lists::NumberList;
 pub use place::{Failure, Place, What, demand};
-pub use sig::{Clause, Prim, Sig, Supply};
+pub use sig::{Clause, Prim_, Sig, Supply};
 pub use ty::{Ty, TyList, substitute, substitute_list};
 pub use typedef::{Meaning, Supertype, TypeDef, Written};

@@ -75,9 +75,9 @@ pub struct Clause {
     pub sig: Sig,
 }
 
-/// A method of a primitive type that may stand for a where-clause.
+/// A method of a primitive type that may stand for a where-clause. `Prim` is a word of the proofs, so the name ends in `_`.
 #[derive(Clone, Copy, Debug, PartialEq, Eq)]
-pub enum Prim {
+pub enum Prim_ {
     /// `equal` of `int`.
     IntEqual,
     /// `less` of `int`.
@@ -90,7 +90,7 @@ pub enum Prim {
 #[derive(Clone, Copy, Debug, PartialEq, Eq)]
 pub enum Supply {
     /// A method of a primitive type.
-    Primitive(Prim),
+    Primitive(Prim_),
     /// A method of a declared type: the numbers of the type's full name and of the method's bare name.
     Method(u32, u32),
     /// A where-clause of the item that calls, by its place there.

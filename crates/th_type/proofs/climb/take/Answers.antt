@@ -1,6 +1,6 @@
-use Rattle.std.proofs.Common.{◌≡◌, ◌<◌, ◌≤◌, Some, sym, rules, arith, ◌∙◌}
+use Rattle.std.proofs.Common.{sym, arith}
 use Rattle.std.proofs.lemmas.Grind.{common_steps}
-use Rattle.th_type.specs.Types.{named_ty, tys_of, tys_height}
+use Rattle.th_type.specs.Types.{tys_of}
 use Rattle.th_type.specs.Tables.{above_of}
 use Rattle.th_type.proofs.Taken.{taken_whole, high_case, known_case, push_case}
 use Rattle.th_type.proofs.climb.take.Goals as goal

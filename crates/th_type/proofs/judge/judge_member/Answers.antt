@@ -1,4 +1,3 @@
-use Rattle.std.proofs.Common.{rules}
 use Rattle.th_type.proofs.Judging.{listed_named}
 use Rattle.th_type.proofs.judge.judge_member.Goals as goal
 

@@ -1,4 +1,4 @@
-use Rattle.std.proofs.Common.{subst, ap, ◌∙◌, map, []}
+use Rattle.std.proofs.Common.{ap, ◌∙◌, map, []}
 use Rattle.th_type.specs.Declarations.{named_decl, super_of}
 use Rattle.th_type.specs.Failures.{lowest}
 use Rattle.th_type.specs.Rules.{list_failures}

@@ -1,4 +1,4 @@
-use Rattle.std.proofs.Common.{sym, subst, ap, ◌∙◌, ◌≡◌}
+use Rattle.std.proofs.Common.{sym, subst, ap, ◌∙◌}
 use Rattle.th_type.specs.Declarations.{declared_types}
 use Rattle.th_type.specs.Rules.{WellFormed, IsNamed, NoneFails}
 use Rattle.th_type.specs.Rows.{rows_of}

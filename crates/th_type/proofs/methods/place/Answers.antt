@@ -1,8 +1,8 @@
-use Rattle.std.proofs.Common.{◌≡◌, ◌≤◌, ◌<◌, ◌+◌, ◌-◌, ◌/◌, ℕ, Some, length, map, slice_get, arith, ap, ◌∙◌}
+use Rattle.std.proofs.Common.{◌≡◌, ◌≤◌, ◌<◌, ◌+◌, ◌-◌, ◌/◌, length, map, arith, ap, ◌∙◌}
 use Rattle.th_type.specs.declared.sig.Sig.{Sig}
 use Rattle.std.proofs.lemmas.Grind.{common_steps}
 use Rattle.std.proofs.lemmas.List.{length-map}
-use Rattle.th_type.specs.Signatures.{Signature, sig_of}
+use Rattle.th_type.specs.Signatures.{sig_of}
 use Rattle.th_type.proofs.MethodLists.{get_at, low_more, high_more, goes_at}
 use Rattle.th_type.proofs.methods.place.Goals as goal
 

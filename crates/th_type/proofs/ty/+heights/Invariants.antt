@@ -1,4 +1,4 @@
-use Rattle.std.proofs.Common.{◌≡◌, ◌≤◌, ◌↔◌}
+use Rattle.std.proofs.Common.{◌≤◌, ◌↔◌}
 use Rattle.th_type.specs.Types.{tys_of, tys_height}
 use Rattle.th_type.specs.declared.ty.TyList.{size-TyList}
 use Rattle.th_type.proofs.ty.+heights.Given as goal

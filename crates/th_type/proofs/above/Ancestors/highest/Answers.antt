@@ -1,6 +1,4 @@
-use Rattle.std.proofs.Common.{◌≡◌, ◌≤◌, ℕ, sym, subst, arith, length, max}
-use Rattle.std.proofs.lemmas.Grind.{common_steps}
-use Rattle.th_type.specs.declared.above.Above.{Above}
+use Rattle.std.proofs.Common.{◌≤◌, sym, subst, arith, length}
 use Rattle.th_type.specs.Tables.{above_of}
 use Rattle.th_type.proofs.Filling.{highest_bound, highest_more, in_take_all}
 use Rattle.th_type.proofs.above.Ancestors.highest.Goals as goal

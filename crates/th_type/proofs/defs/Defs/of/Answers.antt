@@ -1,4 +1,4 @@
-use Rattle.std.proofs.Common.{◌≡◌, ◌++◌, ◌∷◌, [], None, sym, subst, rules, ap, ◌∙◌}
+use Rattle.std.proofs.Common.{◌≡◌, ◌++◌, ◌∷◌, None, sym, subst, rules, ap, ◌∙◌}
 use Rattle.th_type.specs.Declarations.{find_decl}
 use Rattle.th_type.proofs.Lookups.{def_absent}
 use Rattle.th_type.proofs.defs.Defs.of.Goals as goal

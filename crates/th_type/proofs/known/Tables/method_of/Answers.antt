@@ -1,7 +1,6 @@
-use Rattle.std.proofs.Common.{◌≡◌, Some, None, map, subst, sym, ap, ◌∙◌}
-use Rattle.th_type.specs.Signatures.{Signature, sig_of, find_sig}
-use Rattle.th_type.specs.MethodTables.{Rising, FoundAt, GoesAt, method_in}
-use Rattle.th_type.specs.Tables.{tables_methods}
+use Rattle.std.proofs.Common.{map, subst, sym, ap, ◌∙◌}
+use Rattle.th_type.specs.Signatures.{sig_of, find_sig}
+use Rattle.th_type.specs.MethodTables.{Rising}
 use Rattle.th_type.proofs.MethodLists.{found_at_is, goes_is}
 use Rattle.th_type.proofs.known.Tables.method_of.Goals as goal
 
