@@ -87,9 +87,9 @@ breaks_3_without_room = refl
 
 -- an exception that a loop's body raises goes past the iterator to the handler around the loop
 abbrev raising : FlatUnit
-raising = main 3 (OpBlock 8 6 ∷ OpOver 5 ∷ OpCall (codes "m/it") 0 0 12 ∷ OpWord 300 ∷ OpPutbyte 12
-    ∷ OpNext ∷ OpWord 1 ∷ OpPutbyte 12
-    ∷ OpHandle (codes "bounds") 0 12 ∷ OpWord 2 ∷ OpPutbyte 12 ∷ OpReturn 0 ∷ [])
+raising = main 3 (OpBlock 9 6 ∷ (OpOver 5 ∷ (OpCall (codes "m/it") 0 0 13 ∷ (OpWord 300 ∷ (OpPutbyte 13
+    ∷ (OpNext ∷ (OpWord 1 ∷ (OpPutbyte 13 ∷ (OpGo 12
+    ∷ (OpHandle (codes "bounds") 0 13 ∷ (OpWord 2 ∷ (OpPutbyte 13 ∷ (OpReturn 0 ∷ [])))))))))))))
 
 raises : run_of (raising ∷ seven_and_zero ∷ []) 3 None 100 ≡ record { end = Ended; trace = Put 2 ∷ Entered (codes "m/it") ∷ Entered (codes "m/main") ∷ [] }
 raises = refl

@@ -5,16 +5,16 @@ use Rattle.std.specs.Prelude.{slice_get, IsTrue, if◌then◌else◌}
 use Rattle.std.specs.List.{list_all}
 use Rattle.th_meaning.specs.World.{Effect, Did, Fails, Stops, spend, reserve, and_then, give_back}
 use Rattle.th_flat.specs.declared.op.FlatOp.{FlatOp}
-use Rattle.th_flat.specs.declared.op.FlatOp.TheVariants.{OpWord, OpLocal, OpSet, OpDrop, OpArith, OpCompare, OpSame, OpGo, OpUnless, OpCast, OpOwn, OpField, OpSetfield, OpCall, OpDispatch, OpHidden, OpSupply, OpNew, OpArray, OpAt, OpSetat, OpLength, OpPutbyte, OpPutint, OpGet, OpUnitword, OpRaise, OpIs, OpCaught, OpReturn, OpLeave, OpBody, OpYield, OpStop, OpStopped, OpTurn, OpText, OpAppend, OpLetter, OpExtent, OpPuttext, OpBlock, OpHandle, OpOver, OpNext, OpResume}
+use Rattle.th_flat.specs.declared.op.FlatOp.TheVariants.{OpCall, OpDispatch, OpHidden, OpSupply, OpYield, OpResume}
 use Rattle.th_flat.specs.declared.module.FlatUnit.{FlatUnit}
 use Rattle.th_flat.specs.Effects.{shape_of, is_numbered}
-use Rattle.th_flat.specs.WellFormed.{in_range, has_few_operands, is_lawful, first_height, Leads, On, Goes, Fails as FailsTo, Reached, Starts, Comes, WellFormed, AreHeights}
+use Rattle.th_flat.specs.WellFormed.{in_range, has_few_operands, is_lawful, first_height, On, Goes, Fails as FailsTo, Reached, Starts, Comes, WellFormed, AreHeights}
 use Rattle.th_flat.specs.Values.{FlatValue, FlatWorld, Status, Fine, Thrown, IsStopped}
 use Rattle.th_flat.specs.Program.{FlatProgram}
-use Rattle.th_flat.specs.Deeds.{Act, Falls, Jumps, Loads, Stores, Failing, Calls, Leaves, Yields, Nexts, Opens, OpensBody, Puts, Stands, Charge, no_charge, takes_turns, takes_room, takes_both, Deed, free, doing}
-use Rattle.th_flat.specs.Configs.{Loop, NoLoop, Upto, ByUnit, Here, Stack, Bottom, Call, Paused, Config, Run, Entering, Visiting, Returned, Putting, Over, stuck, weight_of, room_of, is_body, is_iterator, frame, words_of, self_of, inside, kept, freed, leaves_body, is_empty, go_to, home_unit, body_ends, ends_as, cover_upto, handler, fail_at, fail_to, jump_to, way_of, failure_of, is_call, shares_words, open_body, loaded, stored, visit, gives_result, with_value, has_right_loop, can_enter, entered, finish, op_deed, seen_at_result, back_fine, back_by, back_seen, back_at, deed, world_of, on_charge, paid, step, steps}
+use Rattle.th_flat.specs.Deeds.{Act, Falls, Jumps, Loads, Stores, Failing, Calls, Leaves, Yields, Nexts, Opens, OpensBody, Puts, Stands, Charge, no_charge, takes_turns, takes_room, takes_both, free, doing}
+use Rattle.th_flat.specs.Configs.{Loop, NoLoop, Upto, ByUnit, Here, Stack, Bottom, Call, Paused, Config, Run, Entering, Visiting, Returned, Putting, Over, stuck, weight_of, room_of, is_body, is_iterator, frame, words_of, self_of, kept, leaves_body, is_empty, go_to, body_ends, ends_as, cover_upto, handler, fail_at, fail_to, jump_to, way_of, failure_of, is_call, shares_words, loaded, visit, gives_result, with_value, has_right_loop, can_enter, entered, finish, op_deed, seen_at_result, back_fine, back_by, back_seen, back_at, deed, world_of, on_charge, paid, step, steps}
 use Rattle.th_flat.specs.Runs.{start, begin}
-use Rattle.th_flat.proofs.Shapes.{AreWellFormed, ActFits, DeedFits, doing_fits, way_is, failure_is}
+use Rattle.th_flat.proofs.Shapes.{AreWellFormed, ActFits, doing_fits, way_is, failure_is}
 
 -- an activation waits at an operation that took its operands
 pub record Waits (u : FlatUnit) (at : ℕ) (st : List FlatValue) : Type 0 where

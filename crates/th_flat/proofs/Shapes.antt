@@ -1,18 +1,17 @@
 -- What an operation of level 3 leaves on the stack.
-use Rattle.std.proofs.Common.{◌≡◌, ℕ, zero, suc, ◌+◌, ◌-◌, ◌<◌, ◌≤◌, Bool, true, false, ◌&&◌, List, [], ◌∷◌, ◌++◌, Option, Some, None, refl, sym, ap, ◌∙◌, subst, length, arith, nat_eq, nat_lt}
+use Rattle.std.proofs.Common.{◌≡◌, ℕ, zero, suc, ◌+◌, ◌-◌, ◌<◌, Bool, true, false, ◌&&◌, List, [], ◌∷◌, Option, Some, None, refl, ◌∙◌, length, arith, nat_eq, nat_lt}
 use Rattle.std.specs.Prelude.{ℤ, pos, negsuc, slice_get, IsTrue, if◌then◌else◌, bytes_eq, replicate}
 use Rattle.std.proofs.lemmas.Bool.{ltb-true, eqb-true}
-use Rattle.std.specs.Fmt.{signed_decimal}
-use Rattle.th_meaning.specs.World.{Object, Instance, Array, Halt, Effect, Did, Fails, Stops, bounds, greatest, text_weight, negation, put_byte, put_all, get_byte, letter, add_object, element, array_length, set_element, field_value, set_field}
+use Rattle.th_meaning.specs.World.{Object, Instance, Array, Effect, Did, Fails, Stops, greatest, negation, put_byte, get_byte, letter, add_object, element, array_length, set_element, field_value, set_field}
 use Rattle.th_flat.specs.declared.op.FlatOp.{FlatOp}
 use Rattle.th_flat.specs.declared.op.FlatOp.TheVariants.{OpWord, OpLocal, OpSet, OpDrop, OpArith, OpCompare, OpSame, OpGo, OpUnless, OpCast, OpOwn, OpField, OpSetfield, OpCall, OpDispatch, OpHidden, OpSupply, OpNew, OpArray, OpAt, OpSetat, OpLength, OpPutbyte, OpPutint, OpGet, OpUnitword, OpRaise, OpIs, OpCaught, OpReturn, OpLeave, OpBody, OpYield, OpStop, OpStopped, OpTurn, OpText, OpAppend, OpLetter, OpExtent, OpPuttext, OpBlock, OpHandle, OpOver, OpNext, OpResume}
 use Rattle.th_flat.specs.declared.module.FlatUnit.{FlatUnit}
 use Rattle.th_flat.specs.declared.shape.Shape.{Shape}
-use Rattle.th_flat.specs.Effects.{failing, shape_of, operands_of, is_numbered}
+use Rattle.th_flat.specs.Effects.{failing, shape_of, is_numbered}
 use Rattle.th_flat.specs.WellFormed.{WellFormed}
-use Rattle.th_flat.specs.Values.{View, as_whole, at_type, FlatValue, Int, Ref, Text, Code, FlatWorld, Status, Fine, Thrown, IsStopped, signed, truth}
+use Rattle.th_flat.specs.Values.{View, as_whole, at_type, FlatValue, Int, Ref, Text, Code, FlatWorld, Status, Fine, Thrown, IsStopped}
 use Rattle.th_flat.specs.Program.{FlatProgram}
-use Rattle.th_flat.specs.Deeds.{Act, Falls, Jumps, Loads, Stores, Failing, Calls, Leaves, Yields, Nexts, Opens, OpensBody, Puts, Stands, Charge, no_charge, Deed, free, for_turns, for_both, stuck_act, on_effect, on_top, on_int, on_ref, on_text, on_code, on_whole, on_seen, on_some, on_test, off, off_two, on_class, on_self, arith_value, push_number, arith_deed, holds, at_zero, calling, on_receiver, array_deed, append_deed, value_for, end_exception, caught_deed, is_thrown, if_fine, stopped_act, doing}
+use Rattle.th_flat.specs.Deeds.{Act, Falls, Jumps, Loads, Stores, Failing, Calls, Leaves, Yields, Nexts, Opens, OpensBody, Puts, Stands, Charge, no_charge, Deed, free, stuck_act, on_effect, on_top, on_int, on_ref, on_text, on_code, on_whole, on_seen, on_some, on_test, off, off_two, on_class, on_self, arith_value, push_number, arith_deed, at_zero, calling, on_receiver, array_deed, append_deed, value_for, end_exception, caught_deed, is_thrown, if_fine, stopped_act, doing}
 use Rattle.th_flat.specs.Configs.{way_of, failure_of}
 
 -- all units that operations can name are well formed
