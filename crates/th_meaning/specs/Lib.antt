@@ -10,3 +10,4 @@ pub mod Laws
 pub mod Onto
 pub mod Typing
 pub mod Fits
+pub mod FitsProgram
