@@ -105,7 +105,7 @@ pub enum CoreExpr {
 #[cycle(exprs)]
 pub enum CoreExprList {
     NoExpr,
-    MoreExpr(CoreExpr, Box<CoreExprList>),
+    MoreExpr(Box<CoreExpr>, Box<CoreExprList>),
 }
 
 /// A call of a unit.
