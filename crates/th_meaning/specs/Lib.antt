@@ -8,3 +8,6 @@ pub mod Run
 pub mod View
 pub mod Laws
 pub mod Onto
+pub mod Typing
+pub mod Fits
+pub mod FitsProgram

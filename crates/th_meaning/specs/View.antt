@@ -53,7 +53,7 @@ abbrev mutual
   -- types
   pub types_of : CoreTypeList → TypeTrees
   types_of NoType = no_type
-  types_of (MoreType' t i ts) = more_types (type_of t) (types_of ts)
+  types_of (MoreType' h t i ts) = more_types (type_of t) (types_of ts)
 
 -- a signature
 abbrev pub sig_of : CoreSig → Signature
@@ -107,7 +107,7 @@ abbrev mutual
   -- expressions
   pub exprs_of : CoreExprList → ExprTrees
   exprs_of NoExpr = no_expr
-  exprs_of (MoreExpr' e i es) = more_exprs (expr_of e) (exprs_of es)
+  exprs_of (MoreExpr' h e i es) = more_exprs (expr_of e) (exprs_of es)
 
   -- a call
   pub call_of : CoreCall → CallTree
@@ -148,7 +148,7 @@ abbrev mutual
   -- statements
   pub body_of : CoreBody → BodyTree
   body_of NoStmt = no_stmt
-  body_of (MoreStmt' s i b) = more_stmts (stmt_of s) (body_of b)
+  body_of (MoreStmt' h s i b) = more_stmts (stmt_of s) (body_of b)
 
   -- what follows the statements after a `then`
   pub else_of : CoreElse → ElseTree

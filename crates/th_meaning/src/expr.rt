@@ -42,7 +42,7 @@ pub enum CompareOp {
     GreaterEqual,
 }
 
-/// A cast from a type to a supertype, or from a class to its type. It has no part in what a program does.
+/// A cast from a type to a supertype. It has no part in what a program does.
 #[derive(Drop)]
 pub struct CoreCast {
     pub from: CoreType,
@@ -105,7 +105,7 @@ pub enum CoreExpr {
 #[cycle(exprs)]
 pub enum CoreExprList {
     NoExpr,
-    MoreExpr(CoreExpr, Box<CoreExprList>),
+    MoreExpr(Box<CoreExpr>, Box<CoreExprList>),
 }
 
 /// A call of a unit.

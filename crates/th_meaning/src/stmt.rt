@@ -67,7 +67,7 @@ pub enum CoreStmt {
 #[cycle(stmts)]
 pub enum CoreBody {
     NoStmt,
-    MoreStmt(CoreStmt, Box<CoreBody>),
+    MoreStmt(Box<CoreStmt>, Box<CoreBody>),
 }
 
 /// What follows the statements after a `then`.

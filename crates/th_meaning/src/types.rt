@@ -31,7 +31,7 @@ pub enum CoreType {
 #[cycle(types)]
 pub enum CoreTypeList {
     NoType,
-    MoreType(CoreType, Box<CoreTypeList>),
+    MoreType(Box<CoreType>, Box<CoreTypeList>),
 }
 
 impl Drop for CoreTypeList {
