@@ -1,0 +1,2 @@
+//! The rules of expressions. docs/LANGUAGE.md, "Rules of expressions", states them.
+#![tactic(auto)]
