@@ -142,7 +142,12 @@ meets as_value s = not s.iterator && is_some s.gives
 meets as_procedure s = not s.iterator
 meets as_iterator s = s.iterator
 
--- the same, where a callee that does not resolve is not judged
+-- a call that is there for what is wished
+abbrev pub wished : Wish → Option Called → Option Called
+wished w None = None
+wished w (Some c) = if meets w c.sig then Some c else None
+
+-- whether a call is what is wished, where a callee that does not resolve is not judged
 abbrev pub meets_opt : Wish → Option Signature → Bool
 meets_opt w None = true
 meets_opt w (Some s) = meets w s

@@ -7,3 +7,4 @@ pub mod Callees
 pub mod Typing
 pub mod Failing
 pub mod Raising
+pub mod Typed

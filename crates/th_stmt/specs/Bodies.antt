@@ -10,7 +10,7 @@ use Rattle.th_expr.specs.Context.{Binding, ClassInfo, Context, Meaning, no_meani
 use Rattle.th_expr.specs.Resolving.{resolved_type}
 use Rattle.th_expr.specs.Cores.{name_at, core_type}
 use Rattle.th_expr.specs.Classes.{is_subtype, own_class, own_name, field_in}
-use Rattle.th_expr.specs.Callees.{Checked, Given, untyped, misfit, fitting, fitted, given_as, given_opt, Called, Wish, as_procedure, as_iterator, meets, own_sig}
+use Rattle.th_expr.specs.Callees.{Checked, Given, untyped, misfit, fitting, fitted, given_as, given_opt, Called, Wish, as_procedure, as_iterator, wished, own_sig}
 use Rattle.th_expr.specs.Typing.{is_int, is_bool, is_text, is_self, typed, typed_call}
 use Rattle.th_stmt.specs.Exceptions.{Key, Exception, exception_of, key_name, has_key, argument_of, seen_with}
 use Rattle.th_stmt.specs.Scopes.{bound, is_fresh, after, variable_count, in_handler, body_locals, else_locals, stmt_locals}
@@ -94,11 +94,6 @@ is_target C ls (item_expr at r ts) = is_local (meaning C ls r) ts
 is_target C ls (field_expr at e f) = is_self e
 is_target C ls (element_expr at e i) = element_target (typed C ls (element_expr at e i))
 is_target C ls _ = false
-
--- a call that is there for what is wished
-abbrev pub wished : Wish → Option Called → Option Called
-wished w None = None
-wished w (Some c) = if meets w c.sig then Some c else None
 
 -- a call whose value is dropped where it has one
 abbrev pub call_stmt_of : CallTree → Option TypeExpr → StmtTree

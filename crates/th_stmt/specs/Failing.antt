@@ -7,12 +7,12 @@ use Rattle.th_type.specs.Failures.{place, unless}
 use Rattle.th_type.specs.Types.{TypeExpr}
 use Rattle.th_expr.specs.Context.{Binding, Context}
 use Rattle.th_expr.specs.Resolving.{resolved_type, type_fails}
-use Rattle.th_expr.specs.Callees.{Checked, fits, given_opt, as_procedure, as_iterator}
+use Rattle.th_expr.specs.Callees.{Checked, fits, given_opt, as_procedure, as_iterator, wished}
 use Rattle.th_expr.specs.Typing.{is_int, is_bool, is_text, typed, typed_call}
 use Rattle.th_expr.specs.Failing.{start, ok_one, fails, call_fails}
 use Rattle.th_stmt.specs.Exceptions.{Key, Exception, exception_of, exception_fails, is_bare, has_argument, argument_of, seen_with, is_new}
 use Rattle.th_stmt.specs.Scopes.{bound, is_fresh, after, variable_count, in_handler, body_locals, stmt_locals}
-use Rattle.th_stmt.specs.Bodies.{type_of, is_target, wished, loop_cast, result_of, yielded_of, given_result, agree}
+use Rattle.th_stmt.specs.Bodies.{type_of, is_target, loop_cast, result_of, yielded_of, given_result, agree}
 
 -- the failures of a declaration: of its type, and of its name, which is that of no local in scope
 abbrev pub formal_fails : Context → List Binding → FormalSyn → List Failure
