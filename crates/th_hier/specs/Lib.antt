@@ -1,4 +1,7 @@
 pub mod Naming
 pub mod Resolve
-pub mod Views
 pub mod Spots
+pub mod Heads
+pub mod Views
+pub mod Texts
+pub mod Numbering

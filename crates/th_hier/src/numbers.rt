@@ -71,3 +71,13 @@ impl Numbers {
         }
     }
 }
+
+/// The number as one of 32 bits; a greater one is want of memory.
+pub fn small(number: usize) -> Result<u32, AllocError>
+    ensures { IfOk result (λ r. r ≡ number) }
+{
+    match u32::try_from(number) {
+        Ok(number) => Ok(number),
+        Err(_) => Err(AllocError),
+    }
+}

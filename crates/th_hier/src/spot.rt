@@ -134,7 +134,7 @@ pub fn judge_methods(
 
 /// Judges that items have different names.
 #[tactic(auto, using(crate::proofs::Mapped::items_mapped))]
-pub fn judge_items(
+pub fn judge_item_names(
     alloc: Global,
     text: u32,
     items: &[InterfaceItem],

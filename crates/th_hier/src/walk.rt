@@ -19,7 +19,7 @@ pub fn walk_type(
     alloc: Global,
     tree: &TypeTree,
     index: &Index,
-    sight: &Sight,
+    sight: &Sight<'_>,
     text: u32,
     least: &mut Option<Failure>,
 ) -> Result<Option<Ty>, AllocError>
@@ -54,7 +54,7 @@ pub fn walk_types(
     alloc: Global,
     types: &TypeList,
     index: &Index,
-    sight: &Sight,
+    sight: &Sight<'_>,
     text: u32,
     least: &mut Option<Failure>,
 ) -> Result<Option<TyList>, AllocError>

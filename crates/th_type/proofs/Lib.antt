@@ -1,1 +1,13 @@
 pub mod Args
+pub mod Least
+pub mod Same
+pub mod Substitution
+pub mod Members
+pub mod Subtyping
+pub mod Closure
+pub mod Tables
+pub mod Resolved
+pub mod Taken
+pub mod Climbing
+pub mod Noting
+pub mod Judging

@@ -52,9 +52,13 @@ super_of s = record { at = s.at; meaning = meant_of s.meaning }
 abbrev pub written_of : Written → WrittenSig
 written_of w = record { at = w.at; sig = sig_of w.sig }
 
+-- the code's declared type, under a number
+abbrev pub named_decl : ℕ → TypeDef → Declaration
+named_decl n d = record { name = n; params = d.params; place = d.place; supertypes = map super_of d.supertypes.items; methods = map written_of d.methods.items }
+
 -- the code's declared type
 abbrev pub decl_of : TypeDef → Declaration
-decl_of d = record { name = d.name; params = d.params; place = d.place; supertypes = map super_of d.supertypes.items; methods = map written_of d.methods.items }
+decl_of d = named_decl d.name d
 
 -- the code's declared types
 abbrev pub decls_of : List TypeDef → List Declaration
@@ -87,10 +91,23 @@ declared_type d = record { name = d.name; params = d.params; supertypes = resolv
 abbrev pub declared_types : List Declaration → List DeclaredType
 declared_types ds = map declared_type ds
 
+-- the declaration with this number, if there is one
+abbrev pub find_decl : List Declaration → ℕ → Option Declaration
+find_decl [] n = None
+find_decl (d ∷ ds) n = if nat_eq n d.name then Some d else find_decl ds n
+
+abbrev pub members_in : Option Declaration → List SuperRef
+members_in None = []
+members_in (Some d) = d.supertypes
+
+-- the members of the list of supertypes of the type with this number; none where there is no such type
+abbrev pub members_of : List Declaration → ℕ → List SuperRef
+members_of ds n = members_in (find_decl ds n)
+
 -- the declared type with this number, if there is one
 abbrev pub find_type : List DeclaredType → ℕ → Option DeclaredType
 find_type [] n = None
-find_type (d ∷ ds) n = if nat_eq d.name n then Some d else find_type ds n
+find_type (d ∷ ds) n = if nat_eq n d.name then Some d else find_type ds n
 
 abbrev pub supertypes_in : Option DeclaredType → List TypeExpr
 supertypes_in None = []

@@ -1,8 +1,13 @@
 pub mod Lists
 pub mod Types
+pub mod Args
 pub mod Failures
 pub mod Signatures
 pub mod Declarations
 pub mod Subtypes
 pub mod Methods
 pub mod Rules
+pub mod Closure
+pub mod Tables
+pub mod Cycles
+pub mod Judged

@@ -6,7 +6,7 @@ use Rattle.th_type.specs.Failures.{place, failure, unless, IsLeastOf}
 use Rattle.th_type.specs.Lists.{IsIn, is_in}
 use Rattle.th_type.specs.Types.{TypeExpr, TypeExprs, named_ty, list_of, ty_height, ParamsBelow, AllParamsBelow}
 use Rattle.th_type.specs.Signatures.{Signature, find_sig}
-use Rattle.th_type.specs.Declarations.{Meant, unresolved, parameter, by_head, whole, SuperRef, WrittenSig, Declaration, DeclaredType, declared_type, declared_types, resolved}
+use Rattle.th_type.specs.Declarations.{Meant, unresolved, parameter, by_head, whole, SuperRef, WrittenSig, Declaration, DeclaredType, declared_type, declared_types, resolved, members_of}
 use Rattle.th_type.specs.Subtypes.{Reached, head_of}
 use Rattle.th_type.specs.Methods.{method_at, Conforms, SameSignature}
 
@@ -36,8 +36,7 @@ list_failures text seen (s ∷ ss) = member_failures text seen s.at s.meaning ++
 
 -- the declared types that the list of supertypes of the type n names; none where there is no such type
 abbrev pub names_up : List Declaration → ℕ → List ℕ
-names_up [] n = []
-names_up (d ∷ ds) n = if nat_eq d.name n then named d.supertypes else names_up ds n
+names_up ds n = named (members_of ds n)
 
 -- b is reached from a by name, in k steps
 abbrev pub NameClimbs : List Declaration → ℕ → ℕ → ℕ → Type 0
@@ -107,12 +106,12 @@ abbrev pub NamesDiffer : List Declaration → Type 0
 NamesDiffer [] = Unit {0}
 NamesDiffer (d ∷ ds) = ((e : Declaration) → IsIn e ds → d.name ≢ e.name) × NamesDiffer ds
 
--- a member that resolves whole names one of the declared types, has as many arguments as it has parameters, and each
--- parameter in them is below n
+-- a member that names a declared type names one of the list; where it resolves whole it has as many arguments as that
+-- has parameters, and each parameter in them is below n
 abbrev pub MemberFits : List Declaration → ℕ → Meant → Type 0
 MemberFits ds n unresolved = Unit {0}
 MemberFits ds n parameter = Unit {0}
-MemberFits ds n (by_head m) = Unit {0}
+MemberFits ds n (by_head m) = (e : Declaration) × IsIn e ds × (e.name ≡ m)
 MemberFits ds n (whole m args) = ((e : Declaration) × IsIn e ds × (e.name ≡ m) × (length (list_of args) ≡ e.params)) × AllParamsBelow n args
 
 -- what a signature gives has only parameters below n

@@ -2,6 +2,11 @@
 #![tactic(auto)]
 
 
+mod above;
+mod climb;
+mod cycles;
+mod defs;
+mod judge;
 mod place;
 mod sig;
 mod ty;

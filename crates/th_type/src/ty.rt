@@ -2,8 +2,9 @@
 //!
 //! A list of types is empty, or a type and the rest. A type has a height of at most 600; a list may have any length, so
 //! that lists are walked and dropped by loops.
-ghost use Rattle.std.specs.Prelude.{◌≡◌, ◌-◌, ◌^◌, length, min, slice_get, map, option_map, IfOk};
-ghost use Rattle.th_type.specs.Types.{ty_of, tys_of, list_of, tys_onto, subst_ty, subst_tys, same_ty, same_tys, ParamsBelow, AllParamsBelow};
+ghost use Rattle.std.specs.Prelude.{◌≡◌, ◌-◌, ◌^◌, length, min, slice_get, map, option_map, IfOk, MatchOption, option_copied, IsTrue, ◌↔◌, ◌≤◌};
+ghost use Rattle.th_type.specs.Args.{args_items};
+ghost use Rattle.th_type.specs.Types.{ty_of, tys_of, list_of, tys_onto, ty_height, tys_height, subst_ty, subst_tys, same_ty, same_tys, arg_at, param_ty, ParamsBelow, AllParamsBelow};
 
 use std::alloc::{AllocError, Global};
 use std::mem;
@@ -81,6 +82,37 @@ impl Ty {
             (Ty::Param(k), Ty::Param(l)) => *k == *l,
             _ => false,
         }
+    }
+}
+
+impl Ty {
+    /// Whether the height of the type is at most the limit.
+    #[cycle(heights)]
+    pub fn is_within(&self, limit: u32) -> bool
+        ensures { IsTrue result ↔ (ty_height (ty_of self.now) ≤ limit) }
+    {
+        match self {
+            Ty::Array(of) => limit > 0 && of.is_within(limit - 1),
+            Ty::Named(_, args) => limit > 0 && args.is_within(limit - 1),
+            _ => limit > 0,
+        }
+    }
+}
+
+impl TyList {
+    /// Whether the height of each type is at most the limit.
+    #[cycle(heights)]
+    pub fn is_within(&self, limit: u32) -> bool
+        ensures { IsTrue result ↔ (tys_height (tys_of self.now) ≤ limit) }
+    {
+        let mut rest = self;
+        while let TyList::MoreTy(first, next) = rest {
+            if !first.is_within(limit) {
+                return false;
+            }
+            rest = next;
+        }
+        true
     }
 }
 
@@ -172,41 +204,87 @@ impl TyList {
     }
 }
 
+/// Arguments that take the place of parameters.
+#[derive(Clone, Copy)]
+pub(crate) enum Args<'a> {
+    Slice(&'a [Ty]),
+    List(&'a TyList),
+}
+
+/// The type at place `k` of the slice; None exactly where there is none.
+fn item(items: &[Ty], k: usize) -> Option<&Ty>
+    ensures { option_copied result ≡ slice_get items.now k }
+{
+    items.get(k)
+}
+
+impl<'a> Args<'a> {
+    /// The argument at a place; None exactly where there is none.
+    fn get(&self, place: u32) -> Option<&'a Ty>
+        ensures { MatchOption result (arg_at (args_items self.now) place place ≡ param_ty place) (λ t. arg_at (args_items self.now) place place ≡ ty_of t.now) }
+    {
+        match self {
+            Args::Slice(items) => item(items, place as usize),
+            Args::List(list) => list.get(place as usize),
+        }
+    }
+}
+
 /// The type with the k-th argument in place of each parameter `k`.
-#[cycle(substitution)]
-#[tactic(auto, using(crate::proofs::Args::arg_at_map))]
 pub fn substitute(alloc: Global, ty: &Ty, args: &[Ty]) -> Result<Ty, AllocError>
     requires { ParamsBelow (length args.now) (ty_of ty.now) }
     ensures { IfOk result (λ t. ty_of t ≡ subst_ty (map ty_of args.now) (ty_of ty.now)) }
 {
-    match ty {
-        Ty::Int => Ok(Ty::Int),
-        Ty::Bool => Ok(Ty::Bool),
-        Ty::Text => Ok(Ty::Text),
-        Ty::Array(of) => {
-            let of = substitute(alloc, of, args)?;
-            Ok(Ty::Array(Box::new(alloc, of)?))
-        }
-        Ty::Named(name, list) => {
-            let list = substitute_list(alloc, list, args)?;
-            Ok(Ty::Named(*name, list))
-        }
-        Ty::Param(place) => args[*place as usize].try_clone(alloc),
-    }
+    ty.with_args(alloc, Args::Slice(args))
 }
 
 /// The types with the k-th argument in place of each parameter `k`.
-#[cycle(substitution)]
 pub fn substitute_list(alloc: Global, list: &TyList, args: &[Ty]) -> Result<TyList, AllocError>
     requires { AllParamsBelow (length args.now) (tys_of list.now) }
     ensures { IfOk result (λ ts. tys_of ts ≡ subst_tys (map ty_of args.now) (tys_of list.now)) }
 {
-    let mut done = TyList::NoTy;
-    let mut rest = list;
-    while let TyList::MoreTy(first, next) = rest {
-        let first = substitute(alloc, first, args)?;
-        done = TyList::MoreTy(Box::new(alloc, first)?, Box::new(alloc, done)?);
-        rest = next;
+    list.with_args(alloc, Args::Slice(args))
+}
+
+impl Ty {
+    /// The type with the argument at each place in place of the parameter there; a parameter without one stays.
+    #[cycle(substitution)]
+    pub(crate) fn with_args(&self, alloc: Global, args: Args<'_>) -> Result<Ty, AllocError>
+        ensures { IfOk result (λ t. ty_of t ≡ subst_ty (args_items args.entry) (ty_of self.now)) }
+    {
+        match self {
+            Ty::Int => Ok(Ty::Int),
+            Ty::Bool => Ok(Ty::Bool),
+            Ty::Text => Ok(Ty::Text),
+            Ty::Array(of) => {
+                let of = of.with_args(alloc, args)?;
+                Ok(Ty::Array(Box::new(alloc, of)?))
+            }
+            Ty::Named(name, list) => {
+                let list = list.with_args(alloc, args)?;
+                Ok(Ty::Named(*name, list))
+            }
+            Ty::Param(place) => match args.get(*place) {
+                Some(arg) => arg.try_clone(alloc),
+                None => Ok(Ty::Param(*place)),
+            },
+        }
     }
-    Ok(done.turned(TyList::NoTy))
+}
+
+impl TyList {
+    /// The types with the argument at each place in place of the parameter there; a parameter without one stays.
+    #[cycle(substitution)]
+    pub(crate) fn with_args(&self, alloc: Global, args: Args<'_>) -> Result<TyList, AllocError>
+        ensures { IfOk result (λ ts. tys_of ts ≡ subst_tys (args_items args.entry) (tys_of self.now)) }
+    {
+        let mut done = TyList::NoTy;
+        let mut rest = self;
+        while let TyList::MoreTy(first, next) = rest {
+            let first = first.with_args(alloc, args)?;
+            done = TyList::MoreTy(Box::new(alloc, first)?, Box::new(alloc, done)?);
+            rest = next;
+        }
+        Ok(done.turned(TyList::NoTy))
+    }
 }
