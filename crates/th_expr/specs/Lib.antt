@@ -8,3 +8,4 @@ pub mod Typing
 pub mod Failing
 pub mod Raising
 pub mod Typed
+pub mod View

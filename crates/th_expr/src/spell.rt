@@ -1,0 +1,76 @@
+//! Names and types in checked trees, which have full names in place of numbers.
+ghost use Rattle.std.specs.Prelude.{◌≡◌, IfOk};
+ghost use Rattle.th_type.specs.Types.{ty_of, tys_of};
+ghost use Rattle.th_meaning.specs.Trees.{no_type};
+ghost use Rattle.th_meaning.specs.View.{type_of, types_of};
+ghost use Rattle.th_expr.specs.Cores.{name_at, core_type, core_types};
+ghost use Rattle.th_expr.specs.View.{core_types_onto};
+
+use std::alloc::{AllocError, Global};
+use std::mem;
+use th_meaning::{CoreType, CoreTypeList};
+use th_tree::{Name, NameTable};
+use th_type::{Ty, TyList};
+
+/// The name with the number; the empty one where the number is not below the count.
+pub fn spelled(alloc: Global, names: &NameTable, number: u32) -> Result<Name, AllocError>
+    ensures { IfOk result (λ n. n ≡ name_at names.now number) }
+{
+    match names.name(number) {
+        Some(bytes) => Ok(Name::of(Vec::from_slice(alloc, bytes)?)),
+        None => Ok(Name::of(Vec::new(alloc))),
+    }
+}
+
+/// The type with full names.
+#[cycle(spelling)]
+pub fn core_type(alloc: Global, ty: &Ty, names: &NameTable) -> Result<CoreType, AllocError>
+    ensures { IfOk result (λ t. type_of t ≡ core_type names.now (ty_of ty.now)) }
+{
+    match ty {
+        Ty::Int => Ok(CoreType::Int),
+        Ty::Bool => Ok(CoreType::Bool),
+        Ty::Text => Ok(CoreType::Text),
+        Ty::Array(of) => {
+            let of = core_type(alloc, of, names)?;
+            Ok(CoreType::Array(Box::new(alloc, of)?))
+        }
+        Ty::Named(name, args) => {
+            let args = core_types(alloc, args, names)?;
+            let name = spelled(alloc, names, *name)?;
+            Ok(CoreType::Named(name, Box::new(alloc, args)?))
+        }
+        Ty::Param(place) => Ok(CoreType::Param(*place)),
+    }
+}
+
+/// The types with full names.
+#[cycle(spelling)]
+pub fn core_types(alloc: Global, list: &TyList, names: &NameTable) -> Result<CoreTypeList, AllocError>
+    ensures { IfOk result (λ ts. types_of ts ≡ core_types names.now (tys_of list.now)) }
+{
+    let mut done = CoreTypeList::NoType;
+    let mut rest = list;
+    while let TyList::MoreTy(first, next) = rest {
+        let first = core_type(alloc, first, names)?;
+        done = CoreTypeList::MoreType(first, Box::new(alloc, done)?);
+        rest = next;
+    }
+    Ok(turned(done))
+}
+
+/// The types the other way round. It takes no memory.
+fn turned(mut types: CoreTypeList) -> CoreTypeList
+    ensures { types_of result ≡ core_types_onto (types_of types) no_type }
+{
+    let mut done = CoreTypeList::NoType;
+    loop {
+        match types {
+            CoreTypeList::NoType => return done,
+            CoreTypeList::MoreType(first, mut others) => {
+                types = mem::replace(&mut *others, done);
+                done = CoreTypeList::MoreType(first, others);
+            }
+        }
+    }
+}
