@@ -69,7 +69,7 @@ x1 = record { local = 1; of = int_type }
 abbrev two_values : List StmtTree → Program
 two_values stmts = program
     (routine (codes "it") [] (begin_stmt (body (yield_stmt (number_expr 65) ∷ yield_stmt (number_expr 66) ∷ []))
-        (more_whens (codes "overflow") None (body (put_byte_stmt (number_expr 33) ∷ [])) no_when) ∷ []) ∷ [])
+    (more_whens (codes "overflow") None (body (put_byte_stmt (number_expr 33) ∷ [])) no_when) ∷ []) ∷ [])
     (for_stmt x0 None (routine_call (codes "m/it") no_type [] no_expr) (body stmts) ∷ put_byte_stmt (number_expr 10) ∷ [])
 
 -- the body puts each: a turn for the call and one for each yield
@@ -128,7 +128,7 @@ joined_8 = refl
 abbrev where_less : Program
 where_less = program
     (routine (codes "f") (int_type ∷ int_type ∷ [])
-        (if_stmt (call_expr (where_call 0 (codes "less") (local_expr 0) (exprs (local_expr 1 ∷ [])))) (body (put_byte_stmt (number_expr 49) ∷ [])) no_else ∷ []) ∷ [])
+    (if_stmt (call_expr (where_call 0 (codes "less") (local_expr 0) (exprs (local_expr 1 ∷ [])))) (body (put_byte_stmt (number_expr 49) ∷ [])) no_else ∷ []) ∷ [])
     (call_stmt (routine_call (codes "m/f") no_type [] (exprs (number_expr 2 ∷ number_expr 3 ∷ []))) ∷ [])
 
 where_less_1 : runs where_less 1 ≡ record { end = NoTurns; trace = Entered (codes "m/f") ∷ Entered (codes "m/main") ∷ [] }
@@ -168,7 +168,7 @@ two_classes stmts = record {
       ∷ unit_with (codes "m/A.f") (of_method (codes "m/A") (codes "f")) [] (return_value_stmt (field_expr (codes "m/A") 0) ∷ [])
       ∷ unit_with (codes "m/B.init") (of_init (codes "m/B")) [] (call_stmt (init_call (codes "m/A") no_type [] (exprs (number_expr 65 ∷ []))) ∷ set_field_stmt (codes "m/B") 0 (number_expr 1) ∷ [])
       ∷ unit_with (codes "m/B.f") (of_method (codes "m/B") (codes "f")) []
-          (return_value_stmt (arith_expr Plus (call_expr (super_call (codes "m/A") (codes "f") no_expr)) (field_expr (codes "m/B") 0)) ∷ [])
+      (return_value_stmt (arith_expr Plus (call_expr (super_call (codes "m/A") (codes "f") no_expr)) (field_expr (codes "m/B") 0)) ∷ [])
       ∷ [];
 } ∷ []
 

@@ -6,3 +6,5 @@ pub mod Weights
 pub mod Meaning
 pub mod Run
 pub mod View
+pub mod Laws
+pub mod Onto

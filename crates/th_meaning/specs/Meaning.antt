@@ -171,6 +171,38 @@ element_of a b st = with_ref a st (λ k. with_int b st (λ i. act (element k i s
 abbrev pub new_array_of : Value → Value → State → Outcome Value
 new_array_of n fill st = with_int n st (λ count. act_as Ref (new_array count fill st.world) st)
 
+abbrev pub negative_of : Value → State → Outcome Value
+negative_of v st = with_int v st (λ x. act_as Int (negation x st.world) st)
+
+abbrev pub not_of : Value → State → Outcome Value
+not_of v st = with_truth v st (λ x. Gives (Truth (not x)) st)
+
+-- `and`: the right side is left where the left one decides
+abbrev pub and_of : (State → Outcome Value) → Value → State → Outcome Value
+and_of right v st = with_truth v st (λ x. if x then right st else Gives (Truth false) st)
+
+-- `or`: the right side is left where the left one decides
+abbrev pub or_of : (State → Outcome Value) → Value → State → Outcome Value
+or_of right v st = with_truth v st (λ x. if x then Gives (Truth true) st else right st)
+
+abbrev pub extent_of : Value → State → Outcome Value
+extent_of v st = with_text v st (λ bytes. Gives (Int (pos (length bytes))) st)
+
+abbrev pub length_of : Value → State → Outcome Value
+length_of v st = with_ref v st (λ k. act_as (λ n. Int (pos n)) (array_length k st.world) st)
+
+abbrev pub self_of : State → Outcome Value
+self_of st = with_self st (λ k. Gives (Ref k) st)
+
+abbrev pub local_of : ℕ → State → Outcome Value
+local_of k st = with_some (local_value k st) Unset st (λ v. Gives v st)
+
+abbrev pub field_of : (class : List ℕ) → (field : ℕ) → State → Outcome Value
+field_of class f st = with_self st (λ k. act (field_value k class f st.world) st)
+
+abbrev pub get_byte_of : State → Outcome Value
+get_byte_of st = act_as Int (get_byte st.world) st
+
 -- what a call comes to once its operands are there and its turn is taken: a unit is entered with a receiver, where it has
 -- one, and arguments; or the value is known, as a primitive gives it
 pub data Target : Type 0 where
@@ -226,6 +258,18 @@ where_target p method (Text bytes) args w = None
 abbrev pub aimed : Option Target → State → Outcome Target
 aimed target st = with_some target Stuck st (λ t. then_do (act (spend 1 st.world) st) (λ _ st1. Gives t st1))
 
+-- a call of a method of an object of a declared type
+abbrev pub aim_method : Program → (method : List ℕ) → Value → List Value → State → Outcome Target
+aim_method p method v args st = aimed (method_target p method v args st.world) st
+
+-- a call of a method of the object of a number
+abbrev pub aim_object : Program → (method : List ℕ) → ℕ → List Value → State → Outcome Target
+aim_object p method k args st = aimed (method_of_object p method k args st.world) st
+
+-- a call of a where-method
+abbrev pub aim_where : Program → (method : List ℕ) → Value → List Value → State → Outcome Target
+aim_where p method v args st = aimed (where_target p method v args st.world) st
+
 -- a loop's body, which a yield runs with a value in the state of its home
 abbrev pub Body : Type 0
 Body = Value → State → Outcome How
@@ -265,6 +309,10 @@ value_called units t st = then_do (called units t st) (λ v st1. with_some v Stu
 abbrev pub made : Units → (class : List ℕ) → (number : ℕ) → List Value → State → Outcome Value
 made units class k args st = then_do (called units (Enters (init_name class) (Some k) args) st) (λ _ st1. Gives (Ref k) st1)
 
+-- the object of a `new`
+abbrev pub new_of : Program → (class : List ℕ) → State → Outcome ℕ
+new_of p class st = act (new_object class (object_weight p class) st.world) st
+
 module _ (p : Program) (units : Units) where
   abbrev mutual
     -- the value of an expression; operands come from left to right, a receiver first
@@ -272,27 +320,26 @@ module _ (p : Program) (units : Units) where
     eval (number_expr n) st = Gives (Int (pos n)) st
     eval (truth_expr b) st = Gives (Truth b) st
     eval (literal_expr bytes) st = Gives (Text bytes) st
-    eval self_expr st = with_self st (λ k. Gives (Ref k) st)
-    eval (local_expr k) st = with_some (local_value k st) Unset st (λ v. Gives v st)
-    eval (field_expr class f) st = with_self st (λ k. act (field_value k class f st.world) st)
-    eval (negative_expr a) st = then_do (eval a st) (λ v st1. with_int v st1 (λ x. act_as Int (negation x st1.world) st1))
-    eval (arith_expr op a b) st = both (eval a st) (λ st1. eval b st1) (arith_of op)
-    eval (compare_expr op a b) st = both (eval a st) (λ st1. eval b st1) (compare_of op)
-    eval (same_expr a b) st = both (eval a st) (λ st1. eval b st1) same_of
-    eval (not_expr a) st = then_do (eval a st) (λ v st1. with_truth v st1 (λ x. Gives (Truth (not x)) st1))
-    eval (and_expr a b) st = then_do (eval a st) (λ v st1. with_truth v st1 (λ x. if x then eval b st1 else Gives (Truth false) st1))
-    eval (or_expr a b) st = then_do (eval a st) (λ v st1. with_truth v st1 (λ x. if x then Gives (Truth true) st1 else eval b st1))
-    eval (join_expr a b) st = both (eval a st) (λ st1. eval b st1) join_of
-    eval (letter_expr a b) st = both (eval a st) (λ st1. eval b st1) letter_of
-    eval (extent_expr a) st = then_do (eval a st) (λ v st1. with_text v st1 (λ bytes. Gives (Int (pos (length bytes))) st1))
-    eval (element_expr a b) st = both (eval a st) (λ st1. eval b st1) element_of
-    eval (length_expr a) st = then_do (eval a st) (λ v st1. with_ref v st1 (λ k. act_as (λ n. Int (pos n)) (array_length k st1.world) st1))
+    eval self_expr st = self_of st
+    eval (local_expr k) st = local_of k st
+    eval (field_expr class f) st = field_of class f st
+    eval (negative_expr a) st = then_do (eval a st) negative_of
+    eval (arith_expr op a b) st = both (eval a st) (eval b) (arith_of op)
+    eval (compare_expr op a b) st = both (eval a st) (eval b) (compare_of op)
+    eval (same_expr a b) st = both (eval a st) (eval b) same_of
+    eval (not_expr a) st = then_do (eval a st) not_of
+    eval (and_expr a b) st = then_do (eval a st) (and_of (eval b))
+    eval (or_expr a b) st = then_do (eval a st) (or_of (eval b))
+    eval (join_expr a b) st = both (eval a st) (eval b) join_of
+    eval (letter_expr a b) st = both (eval a st) (eval b) letter_of
+    eval (extent_expr a) st = then_do (eval a st) extent_of
+    eval (element_expr a b) st = both (eval a st) (eval b) element_of
+    eval (length_expr a) st = then_do (eval a st) length_of
     eval (cast_expr c a) st = eval a st
     eval (call_expr c) st = then_do (aim c st) (value_called units)
-    eval (new_expr class types supplies args) st = then_do (act (new_object class (object_weight p class) st.world) st)
-        (λ k st1. then_do (eval_all args st1) (λ vs st2. made units class k vs st2))
-    eval (new_array_expr t a b) st = both (eval a st) (λ st1. eval b st1) new_array_of
-    eval get_byte_expr st = act_as Int (get_byte st.world) st
+    eval (new_expr class types supplies args) st = then_do (new_of p class st) (λ k st1. then_do (eval_all args st1) (made units class k))
+    eval (new_array_expr t a b) st = both (eval a st) (eval b) new_array_of
+    eval get_byte_expr st = get_byte_of st
 
     -- the values of expressions
     pub eval_all : ExprTrees → State → Outcome (List Value)
@@ -302,10 +349,10 @@ module _ (p : Program) (units : Units) where
     -- a call up to its turn: its operands, and then the turn
     pub aim : CallTree → State → Outcome Target
     aim (routine_call unit types supplies args) st = then_do (eval_all args st) (λ vs st1. aimed (Some (Enters unit None vs)) st1)
-    aim (method_call of method e args) st = then_do (eval e st) (λ v st1. then_do (eval_all args st1) (λ vs st2. aimed (method_target p method v vs st2.world) st2))
-    aim (hidden_call class method args) st = with_self st (λ k. then_do (eval_all args st) (λ vs st1. aimed (method_of_object p method k vs st1.world) st1))
+    aim (method_call of method e args) st = then_do (eval e st) (λ v st1. then_do (eval_all args st1) (aim_method p method v))
+    aim (hidden_call class method args) st = with_self st (λ k. then_do (eval_all args st) (aim_object p method k))
     aim (super_call class method args) st = with_self st (λ k. then_do (eval_all args st) (λ vs st1. aimed (entering (walk p class method) k vs) st1))
-    aim (where_call clause method e args) st = then_do (eval e st) (λ v st1. then_do (eval_all args st1) (λ vs st2. aimed (where_target p method v vs st2.world) st2))
+    aim (where_call clause method e args) st = then_do (eval e st) (λ v st1. then_do (eval_all args st1) (aim_where p method v))
     aim (init_call class types supplies args) st = with_self st (λ k. then_do (eval_all args st) (λ vs st1. aimed (Some (Enters (init_name class) (Some k) vs)) st1))
 
 -- what follows a statement that ended so
@@ -315,21 +362,21 @@ if_done Exit st next = Gives Exit st
 if_done (Return v) st next = Gives (Return v) st
 if_done (Cut l) st next = Gives (Cut l) st
 
--- what follows the body of a `while`
-abbrev pub after_body : Outcome How → (State → Outcome How) → Outcome How
-after_body (Gives Done st) again = again st
-after_body (Gives Exit st) again = Gives Done st
-after_body (Gives (Return v) st) again = Gives (Return v) st
-after_body (Gives (Cut l) st) again = Gives (Cut l) st
-after_body (Raises x v st) again = Raises x v st
-after_body (Halts h w) again = Halts h w
+-- what follows the body of a `while` that ended so
+abbrev pub again_of : (State → Outcome How) → How → State → Outcome How
+again_of again Done st = again st
+again_of again Exit st = Gives Done st
+again_of again (Return v) st = Gives (Return v) st
+again_of again (Cut l) st = Gives (Cut l) st
 
--- a `while`, with a bound on its turns: the test, and where it holds one turn, then the body, then again
+-- what follows the test of a `while`: where it holds one turn, then the body, then again
+abbrev pub while_of : (State → Outcome How) → (State → Outcome How) → Value → State → Outcome How
+while_of body again v st = with_truth v st (λ x. if x then then_do (act (spend 1 st.world) st) (λ _ st1. then_do (body st1) (again_of again)) else Gives Done st)
+
+-- a `while`, with a bound on its turns
 abbrev pub loops : ℕ → (State → Outcome Value) → (State → Outcome How) → State → Outcome How
 loops zero test body st = Halts Deep st.world
-loops (suc n) test body st = then_do (test st) (λ v st1. with_truth v st1 (λ x. if x
-    then then_do (act (spend 1 st1.world) st1) (λ _ st2. after_body (body st2) (loops n test body))
-    else Gives Done st1))
+loops (suc n) test body st = then_do (test st) (while_of body (loops n test body))
 
 -- how a `for` ends whose iterator ended so
 abbrev pub for_how : How → State → Outcome How
@@ -396,20 +443,46 @@ bind_argument None v st = st
 bind_argument (Some x) None st = st
 bind_argument (Some x) (Some v) st = set_local x.local v st
 
+-- a local is set
+abbrev pub set_local_of : ℕ → Value → State → Outcome How
+set_local_of k v st = Gives Done (set_local k v st)
+
+-- a field of the object whose method or initializer runs is set
+abbrev pub set_field_of : (class : List ℕ) → (field : ℕ) → Value → State → Outcome How
+set_field_of class f v st = with_self st (λ k. then_do (act (set_field k class f v st.world) st) (λ _ st1. Gives Done st1))
+
+-- an element of an array is set
+abbrev pub set_element_of : (array index value : Value) → State → Outcome How
+set_element_of a i v st = with_ref a st (λ k. with_int i st (λ j. then_do (act (set_element k j v st.world) st) (λ _ st1. Gives Done st1)))
+
+-- a call as a statement; its value, where it has one, is dropped
+abbrev pub drop_called : Units → Target → State → Outcome How
+drop_called units t st = then_do (called units t st) (λ _ st1. Gives Done st1)
+
+-- what follows a test
+abbrev pub if_of : (State → Outcome How) → (State → Outcome How) → Value → State → Outcome How
+if_of first second v st = with_truth v st (λ x. if x then first st else second st)
+
+abbrev pub put_byte_of : Value → State → Outcome How
+put_byte_of v st = with_int v st (λ x. then_do (act (put_byte x st.world) st) (λ _ st1. Gives Done st1))
+
+abbrev pub put_int_of : Value → State → Outcome How
+put_int_of v st = with_int v st (λ x. then_do (act (put_int x st.world) st) (λ _ st1. Gives Done st1))
+
+abbrev pub put_text_of : Value → State → Outcome How
+put_text_of v st = with_text v st (λ bytes. then_do (act (put_text bytes st.world) st) (λ _ st1. Gives Done st1))
+
 module _ (p : Program) (units : Units) (n : ℕ) where
   abbrev mutual
     -- the execution of a statement
     pub exec : StmtTree → Body → State → Outcome How
-    exec (var_stmt x e) body st = then_do (eval p units e st) (λ v st1. Gives Done (set_local x.local v st1))
-    exec (set_local_stmt k e) body st = then_do (eval p units e st) (λ v st1. Gives Done (set_local k v st1))
-    exec (set_field_stmt class f e) body st = then_do (eval p units e st)
-        (λ v st1. with_self st1 (λ k. then_do (act (set_field k class f v st1.world) st1) (λ _ st2. Gives Done st2)))
-    exec (set_element_stmt a i e) body st = both (eval p units a st) (λ st1. eval p units i st1)
-        (λ x y st2. then_do (eval p units e st2) (λ v st3. with_ref x st3 (λ k. with_int y st3 (λ j.
-        then_do (act (set_element k j v st3.world) st3) (λ _ st4. Gives Done st4)))))
-    exec (call_stmt c) body st = then_do (aim p units c st) (λ t st1. then_do (called units t st1) (λ _ st2. Gives Done st2))
-    exec (drop_stmt c) body st = then_do (aim p units c st) (λ t st1. then_do (called units t st1) (λ _ st2. Gives Done st2))
-    exec (if_stmt e b r) body st = then_do (eval p units e st) (λ v st1. with_truth v st1 (λ x. if x then exec_body b body st1 else exec_else r body st1))
+    exec (var_stmt x e) body st = then_do (eval p units e st) (set_local_of x.local)
+    exec (set_local_stmt k e) body st = then_do (eval p units e st) (set_local_of k)
+    exec (set_field_stmt class f e) body st = then_do (eval p units e st) (set_field_of class f)
+    exec (set_element_stmt a i e) body st = both (eval p units a st) (eval p units i) (λ x y st1. then_do (eval p units e st1) (set_element_of x y))
+    exec (call_stmt c) body st = then_do (aim p units c st) (drop_called units)
+    exec (drop_stmt c) body st = then_do (aim p units c st) (drop_called units)
+    exec (if_stmt e b r) body st = then_do (eval p units e st) (if_of (exec_body b body) (exec_else r body))
     exec (while_stmt e b) body st = loops n (eval p units e) (exec_body b body) st
     exec (for_stmt x cast c b) body st = then_do (aim p units c st) (looped units (λ v st1. exec_body b body (set_local x.local v st1)))
     exec break_stmt body st = Gives Exit st
@@ -419,9 +492,9 @@ module _ (p : Program) (units : Units) (n : ℕ) where
     exec (raise_stmt x) body st = Raises x None st
     exec (raise_value_stmt x e) body st = then_do (eval p units e st) (λ v st1. Raises x (Some v) st1)
     exec (begin_stmt b ws) body st = catch (exec_body b body st) (λ x v st1. handle ws x v body st1)
-    exec (put_byte_stmt e) body st = then_do (eval p units e st) (λ v st1. with_int v st1 (λ x. then_do (act (put_byte x st1.world) st1) (λ _ st2. Gives Done st2)))
-    exec (put_int_stmt e) body st = then_do (eval p units e st) (λ v st1. with_int v st1 (λ x. then_do (act (put_int x st1.world) st1) (λ _ st2. Gives Done st2)))
-    exec (put_text_stmt e) body st = then_do (eval p units e st) (λ v st1. with_text v st1 (λ bytes. then_do (act (put_text bytes st1.world) st1) (λ _ st2. Gives Done st2)))
+    exec (put_byte_stmt e) body st = then_do (eval p units e st) put_byte_of
+    exec (put_int_stmt e) body st = then_do (eval p units e st) put_int_of
+    exec (put_text_stmt e) body st = then_do (eval p units e st) put_text_of
 
     -- the execution of statements
     pub exec_body : BodyTree → Body → State → Outcome How
@@ -432,7 +505,7 @@ module _ (p : Program) (units : Units) (n : ℕ) where
     pub exec_else : ElseTree → Body → State → Outcome How
     exec_else no_else body st = Gives Done st
     exec_else (else_do b) body st = exec_body b body st
-    exec_else (elseif_then e b r) body st = then_do (eval p units e st) (λ v st1. with_truth v st1 (λ x. if x then exec_body b body st1 else exec_else r body st1))
+    exec_else (elseif_then e b r) body st = then_do (eval p units e st) (if_of (exec_body b body) (exec_else r body))
 
     -- an exception goes to the handler of its name; where there is none it goes on
     pub handle : WhenTrees → List ℕ → Option Value → Body → State → Outcome How

@@ -86,7 +86,9 @@ fn locals_of_whens(whens: &CoreWhenList) -> u64
     let mut rest = whens;
     while let CoreWhenList::MoreWhen(_, variable, body, next) = rest {
         let own: u64 = if variable.is_some() { 1 } else { 0 };
-        count = count.saturating_add(own).saturating_add(locals_of_body(body));
+        count = count
+            .saturating_add(own)
+            .saturating_add(locals_of_body(body));
         rest = next;
     }
     count

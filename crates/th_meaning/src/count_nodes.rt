@@ -186,7 +186,9 @@ fn nodes_of_whens(whens: &CoreWhenList) -> u64
     let mut rest = whens;
     while let CoreWhenList::MoreWhen(_, variable, body, next) = rest {
         let own: u64 = if variable.is_some() { 2 } else { 1 };
-        count = count.saturating_add(own).saturating_add(nodes_of_body(body));
+        count = count
+            .saturating_add(own)
+            .saturating_add(nodes_of_body(body));
         rest = next;
     }
     count

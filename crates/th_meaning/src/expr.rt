@@ -2,7 +2,12 @@
 //!
 //! A list of expressions is empty, or an expression and the rest. An expression has a height of at most 600; lists may
 //! have any length, so they are walked and dropped by loops.
+ghost use Rattle.std.specs.Prelude.{◌≡◌};
+ghost use Rattle.th_meaning.specs.View.{exprs_of};
+ghost use Rattle.th_meaning.specs.Onto.{exprs_onto};
+
 use crate::types::{CoreSupply, CoreType, CoreTypeList};
+use std::mem;
 use th_tree::{ByteList, Name};
 
 /// An operator on two numbers that gives a number.
@@ -129,6 +134,24 @@ impl Drop for CoreExprList {
             match self {
                 CoreExprList::NoExpr => return,
                 CoreExprList::MoreExpr(_, rest) => self = Box::into_inner(rest),
+            }
+        }
+    }
+}
+
+impl CoreExprList {
+    /// These expressions the other way round, and then those of `end`. It takes no memory.
+    pub fn turned(mut self, end: CoreExprList) -> CoreExprList
+        ensures { exprs_of result ≡ exprs_onto (exprs_of self) (exprs_of end) }
+    {
+        let mut done = end;
+        loop {
+            match self {
+                CoreExprList::NoExpr => return done,
+                CoreExprList::MoreExpr(first, mut others) => {
+                    self = mem::replace(&mut *others, done);
+                    done = CoreExprList::MoreExpr(first, others);
+                }
             }
         }
     }

@@ -2,8 +2,13 @@
 //!
 //! Statements, `elseif`s and handlers are lists that may have any length; they are walked and dropped by loops. A
 //! statement has a height of at most 600.
+ghost use Rattle.std.specs.Prelude.{◌≡◌};
+ghost use Rattle.th_meaning.specs.View.{body_of, else_of, whens_of};
+ghost use Rattle.th_meaning.specs.Onto.{stmts_onto, elses_onto, whens_onto};
+
 use crate::expr::{CoreCall, CoreCast, CoreExpr};
 use crate::types::CoreType;
+use std::mem;
 use th_tree::Name;
 
 /// A local that a statement declares: its number in the unit, and its type.
@@ -115,6 +120,61 @@ impl Drop for CoreWhenList {
             match self {
                 CoreWhenList::NoWhen => return,
                 CoreWhenList::MoreWhen(_, _, _, rest) => self = Box::into_inner(rest),
+            }
+        }
+    }
+}
+
+impl CoreBody {
+    /// These statements the other way round, and then those of `end`. It takes no memory.
+    pub fn turned(mut self, end: CoreBody) -> CoreBody
+        ensures { body_of result ≡ stmts_onto (body_of self) (body_of end) }
+    {
+        let mut done = end;
+        loop {
+            match self {
+                CoreBody::NoStmt => return done,
+                CoreBody::MoreStmt(first, mut others) => {
+                    self = mem::replace(&mut *others, done);
+                    done = CoreBody::MoreStmt(first, others);
+                }
+            }
+        }
+    }
+}
+
+impl CoreElse {
+    /// These `elseif`s the other way round, and then those of `end`; an `else` among them is dropped. It takes no memory.
+    pub fn turned(mut self, end: CoreElse) -> CoreElse
+        ensures { else_of result ≡ elses_onto (else_of self) (else_of end) }
+    {
+        let mut done = end;
+        loop {
+            match self {
+                CoreElse::NoElse => return done,
+                CoreElse::Else(_) => return done,
+                CoreElse::Elseif(test, body, mut others) => {
+                    self = mem::replace(&mut *others, done);
+                    done = CoreElse::Elseif(test, body, others);
+                }
+            }
+        }
+    }
+}
+
+impl CoreWhenList {
+    /// These handlers the other way round, and then those of `end`. It takes no memory.
+    pub fn turned(mut self, end: CoreWhenList) -> CoreWhenList
+        ensures { whens_of result ≡ whens_onto (whens_of self) (whens_of end) }
+    {
+        let mut done = end;
+        loop {
+            match self {
+                CoreWhenList::NoWhen => return done,
+                CoreWhenList::MoreWhen(name, variable, body, mut others) => {
+                    self = mem::replace(&mut *others, done);
+                    done = CoreWhenList::MoreWhen(name, variable, body, others);
+                }
             }
         }
     }

@@ -2,6 +2,11 @@
 //!
 //! A list of types is empty, or a type and the rest. A type has a height of at most 600; lists may have any length, so
 //! they are walked and dropped by loops.
+ghost use Rattle.std.specs.Prelude.{◌≡◌};
+ghost use Rattle.th_meaning.specs.View.{types_of};
+ghost use Rattle.th_meaning.specs.Onto.{types_onto};
+
+use std::mem;
 use th_tree::Name;
 
 /// A type.
@@ -85,4 +90,22 @@ pub enum CoreSupply {
     Method(Name, Name),
     /// A where-method of the item itself: the place of its clause, from 0.
     Passed(u32),
+}
+
+impl CoreTypeList {
+    /// These types the other way round, and then those of `end`. It takes no memory.
+    pub fn turned(mut self, end: CoreTypeList) -> CoreTypeList
+        ensures { types_of result ≡ types_onto (types_of self) (types_of end) }
+    {
+        let mut done = end;
+        loop {
+            match self {
+                CoreTypeList::NoType => return done,
+                CoreTypeList::MoreType(first, mut others) => {
+                    self = mem::replace(&mut *others, done);
+                    done = CoreTypeList::MoreType(first, others);
+                }
+            }
+        }
+    }
 }
