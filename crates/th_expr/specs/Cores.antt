@@ -1,13 +1,11 @@
 -- Types in checked trees, which have full names in place of numbers.
-use Rattle.std.specs.Prelude.{ℕ, zero, suc, List, [], ◌∷◌}
+use Rattle.std.specs.Prelude.{ℕ, List, [], unwrap_or, slice_get}
 use Rattle.th_type.specs.Types.{TypeExpr, int_ty, bool_ty, text_ty, array_ty, named_ty, param_ty, TypeExprs, no_ty, more_ty}
 use Rattle.th_meaning.specs.Trees.{TypeTree, int_type, bool_type, text_type, array_type, named_type, param_type, TypeTrees, no_type, more_types}
 
 -- the bytes of the name with a number
 abbrev pub name_at : List (List ℕ) → ℕ → List ℕ
-name_at [] n = []
-name_at (b ∷ bs) zero = b
-name_at (b ∷ bs) (suc n) = name_at bs n
+name_at names n = unwrap_or (slice_get names n) []
 
 abbrev mutual
   -- a type with full names

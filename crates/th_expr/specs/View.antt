@@ -2,7 +2,6 @@
 use Rattle.std.specs.Prelude.{ℕ, List, [], ◌∷◌, map, Option, Some, None, option_map}
 use Rattle.th_type.specs.Types.{ty_of}
 use Rattle.th_type.specs.Signatures.{sig_of, clause_of}
-use Rattle.th_meaning.specs.Trees.{TypeTrees, no_type, more_types}
 use Rattle.th_expr.specs.declared.local.Local.{Local}
 use Rattle.th_expr.specs.declared.local.LocalList.{LocalList}
 use Rattle.th_expr.specs.declared.local.LocalList.TheVariants.{NoLocal, MoreLocal'}
@@ -53,8 +52,3 @@ item_of i = record { name = i.name; from = i.from; full = i.full; head = item_he
 -- items
 abbrev pub items_of : Items → List Item
 items_of is = map item_of is.list.items
-
--- the first types the other way round, before the second
-abbrev pub core_types_onto : TypeTrees → TypeTrees → TypeTrees
-core_types_onto no_type done = done
-core_types_onto (more_types t ts) done = core_types_onto ts (more_types t done)

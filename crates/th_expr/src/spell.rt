@@ -1,13 +1,10 @@
 //! Names and types in checked trees, which have full names in place of numbers.
 ghost use Rattle.std.specs.Prelude.{◌≡◌, IfOk};
 ghost use Rattle.th_type.specs.Types.{ty_of, tys_of};
-ghost use Rattle.th_meaning.specs.Trees.{no_type};
 ghost use Rattle.th_meaning.specs.View.{type_of, types_of};
 ghost use Rattle.th_expr.specs.Cores.{name_at, core_type, core_types};
-ghost use Rattle.th_expr.specs.View.{core_types_onto};
 
 use std::alloc::{AllocError, Global};
-use std::mem;
 use th_meaning::{CoreType, CoreTypeList};
 use th_tree::{Name, NameTable};
 use th_type::{Ty, TyList};
@@ -56,21 +53,5 @@ pub fn core_types(alloc: Global, list: &TyList, names: &NameTable) -> Result<Cor
         done = CoreTypeList::MoreType(first, Box::new(alloc, done)?);
         rest = next;
     }
-    Ok(turned(done))
-}
-
-/// The types the other way round. It takes no memory.
-fn turned(mut types: CoreTypeList) -> CoreTypeList
-    ensures { types_of result ≡ core_types_onto (types_of types) no_type }
-{
-    let mut done = CoreTypeList::NoType;
-    loop {
-        match types {
-            CoreTypeList::NoType => return done,
-            CoreTypeList::MoreType(first, mut others) => {
-                types = mem::replace(&mut *others, done);
-                done = CoreTypeList::MoreType(first, others);
-            }
-        }
-    }
+    Ok(done.turned(CoreTypeList::NoType))
 }

@@ -3,7 +3,7 @@ use Rattle.th_type.specs.Types.{tys_of}
 use Rattle.th_type.specs.declared.ty.TyList.{size-TyList}
 use Rattle.th_meaning.specs.View.{types_of}
 use Rattle.th_expr.specs.Cores.{core_types}
-use Rattle.th_expr.specs.View.{core_types_onto}
+use Rattle.th_meaning.specs.Onto.{types_onto}
 use Rattle.th_expr.proofs.spell.+spelling.Given as goal
 
 abbrev pub decreases-core_type : goal.decreases-core_type
@@ -14,5 +14,5 @@ decreases-core_types l = goal.size-core_types l
 
 abbrev pub invariant-core_types-loop-rest : goal.invariant-core_types-loop-rest
 invariant-core_types-loop-rest l =
-    (core_types_onto (types_of l.done) (core_types l.names (tys_of l.rest)) ≡ core_types l.names (tys_of l.list))
+    (types_onto (types_of l.done) (core_types l.names (tys_of l.rest)) ≡ core_types l.names (tys_of l.list))
   × (size-TyList l.rest ≤ size-TyList l.list)
