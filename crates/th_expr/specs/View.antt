@@ -11,7 +11,13 @@ use Rattle.th_expr.specs.declared.item.Head.{Head as ItemHead}
 use Rattle.th_expr.specs.declared.item.Head.TheVariants as heads
 use Rattle.th_expr.specs.declared.item.Item.{Item as CodeItem}
 use Rattle.th_expr.specs.declared.item.Items.{Items}
-use Rattle.th_expr.specs.Context.{Binding, RoutineInfo, ClassInfo, Head, exception_head, type_head, class_head, routine_head, Item}
+use Rattle.th_expr.specs.declared.table.TypeRow.{TypeRow}
+use Rattle.th_expr.specs.declared.table.TypeTable.{TypeTable}
+use Rattle.th_expr.specs.declared.env.Env.{Env}
+use Rattle.th_expr.specs.declared.env.Meant.{Meant}
+use Rattle.th_expr.specs.declared.env.Meant.TheVariants as meant
+use Rattle.th_type.specs.Declarations.{DeclaredType}
+use Rattle.th_expr.specs.Context.{Context, Meaning, no_meaning, local_meaning, param_meaning, item_meaning, Binding, RoutineInfo, ClassInfo, Head, exception_head, type_head, class_head, routine_head, Item}
 
 -- a local
 abbrev pub binding_of : Local → Binding
@@ -52,3 +58,31 @@ item_of i = record { name = i.name; from = i.from; full = i.full; head = item_he
 -- items
 abbrev pub items_of : Items → List Item
 items_of is = map item_of is.list.items
+
+-- a declared type
+abbrev pub row_of : TypeRow → DeclaredType
+row_of r = record { name = r.name; params = r.params; supertypes = map ty_of r.supertypes.items; written = map sig_of r.written.items }
+
+-- declared types
+abbrev pub rows_of : TypeTable → List DeclaredType
+rows_of t = map row_of t.rows.items
+
+-- what is known where a unit stands
+abbrev pub context_of : Env → Context
+context_of e = record {
+  text = e.text;
+  names = e.names.now;
+  types = rows_of e.types.now;
+  items = items_of e.items.now;
+  visible = record { text = None; implements = e.implements; uses = e.uses.now; params = e.params.now };
+  clauses = map clause_of e.clauses.now;
+  sig = sig_of e.sig.now;
+  class = e.class;
+}
+
+-- what a name means
+abbrev pub meant_of : Meant → Meaning
+meant_of meant.Nothing = no_meaning
+meant_of (meant.Local l) = local_meaning (binding_of l.now)
+meant_of (meant.Param k) = param_meaning k
+meant_of (meant.Item i) = item_meaning (item_of i.now)

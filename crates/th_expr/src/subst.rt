@@ -57,3 +57,55 @@ pub fn substituted_list(alloc: Global, list: &TyList, args: &TyList) -> Result<T
     }
     Ok(done.turned(TyList::NoTy))
 }
+
+/// The result with arguments in place of parameters, where there is one.
+fn gives_with(alloc: Global, gives: &Option<Ty>, args: &TyList) -> Result<Option<Ty>, AllocError>
+    ensures { IfOk result (λ t. option_map ty_of t ≡ option_map (subst_ty (list_of (tys_of args.now))) (option_map ty_of gives.now)) }
+{
+    match gives {
+        None => Ok(None),
+        Some(ty) => Ok(Some(substituted(alloc, ty, args)?)),
+    }
+}
+
+/// The signature with the k-th argument in place of each parameter `k`.
+pub fn sig_with(alloc: Global, sig: &Sig, args: &TyList) -> Result<Sig, AllocError>
+    ensures { IfOk result (λ s. sig_of s ≡ subst_sig (list_of (tys_of args.now)) (sig_of sig.now)) }
+{
+    let formals = substituted_list(alloc, &sig.formals, args)?;
+    let gives = gives_with(alloc, &sig.gives, args)?;
+    let signals = Vec::from_slice(alloc, sig.signals.as_slice())?;
+    Ok(Sig {
+        method: sig.method,
+        iterator: sig.iterator,
+        formals,
+        gives,
+        signals: NumberList::of(signals),
+    })
+}
+
+/// A second result, equal to this one.
+fn gives_clone(alloc: Global, gives: &Option<Ty>) -> Result<Option<Ty>, AllocError>
+    ensures { IfOk result (λ t. option_map ty_of t ≡ option_map ty_of gives.now) }
+{
+    match gives {
+        None => Ok(None),
+        Some(ty) => Ok(Some(ty.try_clone(alloc)?)),
+    }
+}
+
+/// A second signature, equal to this one.
+pub fn sig_clone(alloc: Global, sig: &Sig) -> Result<Sig, AllocError>
+    ensures { IfOk result (λ s. sig_of s ≡ sig_of sig.now) }
+{
+    let formals = sig.formals.try_clone(alloc)?;
+    let gives = gives_clone(alloc, &sig.gives)?;
+    let signals = Vec::from_slice(alloc, sig.signals.as_slice())?;
+    Ok(Sig {
+        method: sig.method,
+        iterator: sig.iterator,
+        formals,
+        gives,
+        signals: NumberList::of(signals),
+    })
+}
