@@ -27,7 +27,7 @@ use Rattle.th_expr.specs.Classes.{is_subtype, own_class, own_name, field_in}
 use Rattle.th_expr.specs.Callees.{Checked, checked, checked_opt, Given, untyped, misfit, fitting, fits, given, given_as, given_opt, cast_to, surplus, joined, Callee, Called, call_with, call_given, call_tree, value_of, Wish, as_value, as_procedure, as_iterator, meets, meets_opt, wished, callee_sig, args_ok, Named, no_callee, local_callee, routine_callee, routine_target, fitted, item_callee, named, instance, instance_of, instance_with, instance_sig, instance_supplies, instance_callee, is_supplied, supplied, Instance, receiver_callee, has_method, super_callee, init_sig, class_supplied, class_supplies}
 use Rattle.th_expr.specs.Typing.{is_int, is_bool, is_text, is_array, takes, binary, binary_tree, result_type, one, element, element_at, length_of, length_at, new_array, filled, plain_name, local_checked, self_in, is_self, field_of, field_checked, made, new_object, typed, typed_args, typed_call}
 use Rattle.th_expr.specs.Failing.{start, ok_one, ok_two, is_indexed, indexes, plain_fails, name_fails, routine_fails, callee_fails, method_fails, super_fails, new_fails, fails, args_fail, call_fails}
-use Rattle.th_expr.specs.Typed.{AllTyped}
+use Rattle.th_expr.specs.AllTyped.{AllTyped}
 
 pub none_append : (xs ys : List Failure) → none_of (xs ++ ys) ≡ none_of xs && none_of ys
 none_append [] ys = refl

@@ -7,5 +7,6 @@ pub mod Callees
 pub mod Typing
 pub mod Failing
 pub mod Raising
-pub mod Typed
+pub mod AllTyped
+pub mod Plain
 pub mod View

@@ -17,6 +17,14 @@ use Rattle.th_expr.specs.declared.env.Env.{Env}
 use Rattle.th_expr.specs.declared.env.Meant.{Meant}
 use Rattle.th_expr.specs.declared.env.Meant.TheVariants as meant
 use Rattle.th_type.specs.Declarations.{DeclaredType}
+use Rattle.th_meaning.specs.Trees.{ExprTree, ExprTrees}
+use Rattle.th_meaning.specs.View.{expr_of, exprs_of}
+use Rattle.th_expr.specs.declared.typed.Typed.{Typed}
+use Rattle.th_expr.specs.declared.typed.GivenOne.{GivenOne}
+use Rattle.th_expr.specs.declared.typed.GivenOne.TheVariants as one
+use Rattle.th_expr.specs.declared.typed.GivenAll.{GivenAll}
+use Rattle.th_expr.specs.declared.typed.GivenAll.TheVariants as all
+use Rattle.th_expr.specs.Callees.{Checked, checked, Given, untyped, misfit, fitting}
 use Rattle.th_expr.specs.Context.{Context, Meaning, no_meaning, local_meaning, param_meaning, item_meaning, Binding, RoutineInfo, ClassInfo, Head, exception_head, type_head, class_head, routine_head, Item}
 
 -- a local
@@ -86,3 +94,24 @@ meant_of meant.Nothing = no_meaning
 meant_of (meant.Local l) = local_meaning (binding_of l.now)
 meant_of (meant.Param k) = param_meaning k
 meant_of (meant.Item i) = item_meaning (item_of i.now)
+
+-- a checked expression with its type
+abbrev pub typed_of : Typed → Checked
+typed_of t = checked (expr_of t.core) (ty_of t.ty)
+
+-- a checked expression, where there is one
+abbrev pub typed_opt : Option Typed → Option Checked
+typed_opt None = None
+typed_opt (Some t) = Some (typed_of t)
+
+-- a value that is given
+abbrev pub given_of : GivenOne → Given ExprTree
+given_of one.Untyped = untyped
+given_of one.Misfit = misfit
+given_of (one.Fits e) = fitting (expr_of e)
+
+-- values that are given
+abbrev pub givens_of : GivenAll → Given ExprTrees
+givens_of all.Untyped = untyped
+givens_of all.Misfit = misfit
+givens_of (all.Fits es) = fitting (exprs_of es)
