@@ -13,6 +13,7 @@ use th_world::Source;
 
 /// A run: what is still to do, the values of arguments that are there already, the running unit's frame, the units whose
 /// loops its yields run, what callers kept, the turns and the room left, the objects, and the units entered.
+#[derive(Drop)]
 pub(crate) struct Run<'a> {
     pub alloc: Global,
     pub arena: &'a Bump,

@@ -121,8 +121,7 @@ fn go<'a, S: Source, K: Sink>(
 mod tests {
     use super::*;
     use std::alloc::AllocError;
-    use std::process::HostRuntime;
-    use th_meaning::{ArithOp, CompareOp, CoreBody, CoreExpr, CoreSig, CoreStmt, CoreType, CoreUnit, CoreVariable, UnitKind};
+        use th_meaning::{ArithOp, CompareOp, CoreBody, CoreExpr, CoreSig, CoreStmt, CoreType, CoreUnit, CoreVariable, UnitKind};
     use th_world::{MemSink, MemSource};
 
     fn name(alloc: Global, text: &[u8]) -> Result<Name, AllocError> {
@@ -132,17 +131,17 @@ mod tests {
     fn body(alloc: Global, stmts: Vec<CoreStmt>) -> Result<CoreBody, AllocError> {
         let mut done = CoreBody::NoStmt;
         for stmt in stmts {
-            done = CoreBody::MoreStmt(stmt, Box::new(alloc, done)?);
+            done = CoreBody::MoreStmt(Box::new(alloc, stmt)?, Box::new(alloc, done)?);
         }
         Ok(done.turned(CoreBody::NoStmt))
     }
 
     fn local(alloc: Global, k: u32) -> Result<Box<CoreExpr>, AllocError> {
-        Box::new(alloc, CoreExpr::Local(k))
+        Ok(Box::new(alloc, CoreExpr::Local(k))?)
     }
 
     fn number(alloc: Global, n: u32) -> Result<Box<CoreExpr>, AllocError> {
-        Box::new(alloc, CoreExpr::Number(n))
+        Ok(Box::new(alloc, CoreExpr::Number(n))?)
     }
 
     /// `s := 0; i := 0; while i < n do s := s + i % 7; i := i + 1; end put_int(s);`

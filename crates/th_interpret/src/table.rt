@@ -3,6 +3,7 @@ use std::alloc::{AllocError, Global};
 use th_meaning::{CoreClass, CoreModule, CoreType, CoreUnit, depth, locals};
 
 /// A unit: its name, itself, how many locals it has, and the weight of an open call.
+#[derive(Drop)]
 pub(crate) struct UnitRow<'a> {
     pub name: &'a [u8],
     pub unit: &'a CoreUnit,
@@ -19,6 +20,7 @@ pub(crate) struct MethodRow<'a> {
 
 /// A class: its name, how many fields the classes above it have, how many fields an object has in all, the weight of an
 /// object, its initializer's number, and its methods in order of their names.
+#[derive(Drop)]
 pub(crate) struct ClassRow<'a> {
     pub name: &'a [u8],
     pub above: usize,
@@ -29,6 +31,7 @@ pub(crate) struct ClassRow<'a> {
 }
 
 /// The units and classes of a program.
+#[derive(Drop)]
 pub(crate) struct Table<'a> {
     pub units: Vec<UnitRow<'a>>,
     pub classes: Vec<ClassRow<'a>>,
