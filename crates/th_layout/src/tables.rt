@@ -1,7 +1,8 @@
 //! The contents of the tables of classes.
 ghost use Rattle.std.specs.BTreeMap.{get};
+ghost use Rattle.std.specs.HashMap.{get as hash_get};
 ghost use Rattle.std.specs.Ordering.{int_cmp};
-ghost use Rattle.std.specs.Prelude.{◌≡◌, ◌≤◌, ◌<◌, ◌+◌, ℤ, length, IfOk, OnOk, [], ◌∷◌, slice_get};
+ghost use Rattle.std.specs.Prelude.{◌≡◌, ◌≤◌, ◌<◌, ◌+◌, ℤ, length, IfOk, OnOk, [], ◌∷◌, slice_get, ◌*◌, ℕ, nat_eq, option_map, unwrap_or};
 ghost use Rattle.th_layout.specs.Given.{Arriving, Bodied, GivenTypes};
 ghost use Rattle.th_layout.specs.Known.{Few};
 ghost use Rattle.th_layout.specs.Laid.{Casted, IsClassSide, IsTypeSide};
@@ -31,6 +32,17 @@ fn keep_first(map: &mut BTreeMap<i32, Slot>, slot: Slot) -> Result<(), AllocErro
     Ok(())
 }
 
+/// The bytes down to the first view of a type, 0 where it is not seen.
+fn bytes_to(casts: &Casts, to: u32) -> u32
+    requires { (w : ℕ) → hash_get nat_eq casts.now.words to ≡ Some w → w < 64 }
+    ensures { result ≡ unwrap_or (option_map (λ w. 4 * w) (hash_get nat_eq casts.now.words to)) 0 }
+{
+    match casts.words.get(&to) {
+        Some(word) => 4 * *word,
+        None => 0,
+    }
+}
+
 /// The distance in bytes from one type down to another, 0 where it does not reach it.
 fn lowering_of(types: &[TypeRow], classes: &[ClassRow], casts: &[Casts], from: u32, to: u32) -> u32
     requires casts { (length casts.now ≡ length types.now) × Casted types.now casts.now }
@@ -38,10 +50,7 @@ fn lowering_of(types: &[TypeRow], classes: &[ClassRow], casts: &[Casts], from: u
     ensures { result ≡ lowering (record { types = types.now; classes = classes.now }) from to }
 {
     match casts.get(from as usize) {
-        Some(from) => match from.words.get(&to) {
-            Some(word) => 4 * *word,
-            None => 0,
-        },
+        Some(from) => bytes_to(from, to),
         None => 0,
     }
 }
