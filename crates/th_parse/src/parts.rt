@@ -1,6 +1,6 @@
 //! Statements of their parts.
 ghost use Rattle.std.specs.Prelude.{◌≡◌, ◌<◌, MatchResult};
-ghost use Rattle.th_tree.specs.Trees.{more_stmts, no_else, else_do, if_stmt, while_stmt, for_stmt, begin_stmt};
+ghost use Rattle.th_tree.specs.Trees.{no_else, else_do, if_stmt, while_stmt, for_stmt, begin_stmt};
 ghost use Rattle.th_tree.specs.View.{expr_of, formal_of, stmt_of as tree_of, body_of, else_of as else_tree_of, whens_of as handlers_of};
 ghost use Rattle.th_tree.specs.Grammar.{more_elses, more_handlers};
 ghost use Rattle.th_tree.specs.Onto.{elses_onto, whens_onto};
@@ -46,13 +46,6 @@ pub fn boxed_whens<'a>(alloc: Global, tree: WhenList) -> Result<Box<WhenList>, S
         Ok(b) => Ok(b),
         Err(_) => Err(Stop::Memory),
     }
-}
-
-/// The statements with one more before them.
-pub fn more_first<'a>(alloc: Global, tree: Stmt, trees: Body) -> Result<Body, Stop<'a>>
-    ensures { MatchResult result (λ l. body_of l ≡ more_stmts (tree_of tree) (body_of trees)) (λ e. e ≡ Memory) }
-{
-    Ok(Body::MoreStmt(tree, boxed_body(alloc, trees)?))
 }
 
 /// The parts with one more `elseif` before them.

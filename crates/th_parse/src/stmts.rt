@@ -12,7 +12,7 @@ ghost use Rattle.th_parse.specs.Parts.{elseif_part, when_part};
 ghost use Rattle.th_syntax.specs.Lists.{with_back};
 
 use crate::parts::{
-    begin_tree, else_none, else_some, for_tree, if_tree, more_elseif, more_first, more_when,
+    begin_tree, boxed_body, else_none, else_some, for_tree, if_tree, more_elseif, more_when,
     when_end, while_tree,
 };
 use crate::plain::{
@@ -63,8 +63,9 @@ fn stmts<'a>(reader: Reader, r: u32, tokens: &'a [Lexeme]) -> Step<'a, Body>
         if !starts_statement(rest) {
             return Ok((back.turned(Body::NoStmt), rest));
         }
+        let before = boxed_body(reader.alloc, back)?;
         let (one, after) = stmt(reader, r, rest)?;
-        back = more_first(reader.alloc, one, back)?;
+        back = Body::MoreStmt(one, before);
         rest = after;
     }
     Ok((back.turned(Body::NoStmt), rest))

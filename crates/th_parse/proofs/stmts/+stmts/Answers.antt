@@ -18,13 +18,13 @@ body_tree-returns t c = rw (body_room c.args.room c.args.reader.most c.args.toke
 
 pub stmts-returns-in_err-one : goal.stmts-returns-in_err-one
 stmts-returns-in_err-one t c =
-    let p = err_from_is_err_and c.from_residual.result c.from_residual.ensures.1 in
+    let p = err_from_is_err_and c.from_residual-in_err-one.result c.from_residual-in_err-one.ensures.1 in
     rw (p.1, p.2) (bad_more (in_set (stmt_first)) (stmt_of c.args.r (read_body c.args.r)) more_stmts (ret no_stmt) stmts_onto (λ b a. more_stmts a b) (λ a b done. refl)
     c.args.reader.most c.loop.counter c.args.reader.most (body_of c.loop.back) c.loop.rest.now (stmts_of c.args.r (read_body c.args.r) c.args.reader.most c.args.tokens.now) c.in_err-one.field-0.0 c.loop-test.true c.if-not-starts_statement.ensures c.in_err-one.ensures c.loop.invariant)
 
 pub stmts-loop-preserved : goal.stmts-loop-preserved
 stmts-loop-preserved t c =
-    rw c.in_ok-back.ensures (one_more (in_set (stmt_first)) (stmt_of c.args.r (read_body c.args.r)) more_stmts (ret no_stmt) stmts_onto (λ b a. more_stmts a b) (λ a b done. refl)
+    rw c.in_ok-before.ensures (one_more (in_set (stmt_first)) (stmt_of c.args.r (read_body c.args.r)) more_stmts (ret no_stmt) stmts_onto (λ b a. more_stmts a b) (λ a b done. refl)
     c.args.reader.most c.loop.counter c.args.reader.most (body_of c.loop.back) (tree_of c.in_ok-one.one) c.loop.rest.now c.in_ok-one.after.now (stmts_of c.args.r (read_body c.args.r) c.args.reader.most c.args.tokens.now) c.loop-test.true c.if-not-starts_statement.ensures c.in_ok-one.ensures c.loop.invariant)
 
 pub stmts-returns-then-not-starts_statement : goal.stmts-returns-then-not-starts_statement
