@@ -108,7 +108,7 @@ row_small a p k o d r y e m h g f =
     let ww : r.wheres ≡ (get_or p.classes k y).wheres = ap (λ z. z.wheres) u in
     let ff : r.fields ≡ (get_or p.classes k y).fields = ap (λ z. z.fields) u in omega arith
 
-first_has : (u w : ℕ) (l : List Spot) → first_of u l ≡ Some w → HasSpot l u w
+pub first_has : (u w : ℕ) (l : List Spot) → first_of u l ≡ Some w → HasSpot l u w
 first_has u w [] e = absurd (cc)
 first_has u w (s ∷ ss) e = by (cases_Bool (nat_eq s.name u)) (λ d. first_has u w ss d)
   where
@@ -116,7 +116,7 @@ first_has u w (s ∷ ss) e = by (cases_Bool (nat_eq s.name u)) (λ d. first_has 
     by (inl t) f = let z : Some s.word ≡ Some w = (rw t at e) in inl (sym (eqb-true s.name u t), cc)
     by (inr t) f = inr (f (rw t at e))
 
-casted_got : (l : List Casts) (k : ℕ) (d : Casts) (x : Tree) → k < length l → CastedAt (slice_get l k) x → (q : ℕ) → get nat_eq (get_or l k d).words q ≡ first_of q (spots x)
+pub casted_got : (l : List Casts) (k : ℕ) (d : Casts) (x : Tree) → k < length l → CastedAt (slice_get l k) x → (q : ℕ) → get nat_eq (get_or l k d).words q ≡ first_of q (spots x)
 casted_got [] k d x h g = absurd (omega arith)
 casted_got (y ∷ ys) zero d x h g = g
 casted_got (y ∷ ys) (suc k) d x h g = casted_got ys k d x (omega arith) g

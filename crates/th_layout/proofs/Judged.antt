@@ -154,7 +154,7 @@ pub type_names_many : (rows : List TypeRow) (tn l : List ℕ) → tn ≡ type_nu
 type_names_many rows tn l a b = let x : length tn ≡ length (type_numbers rows) = ap length a in let y : length (type_numbers rows) ≡ length rows = type_many rows in omega arith
 
 -- past the end of a list there is a type without supertypes, and no class
-none_past : (rows : List TypeRow) (n : ℕ) → length rows ≤ n → slice_get rows n ≡ None
+pub none_past : (rows : List TypeRow) (n : ℕ) → length rows ≤ n → slice_get rows n ≡ None
 none_past [] zero h = refl
 none_past [] (suc n) h = refl
 none_past (r ∷ rest) zero h = absurd (omega arith)
@@ -166,7 +166,7 @@ class_past [] (suc n) h = refl
 class_past (r ∷ rest) zero h = absurd (omega arith)
 class_past (r ∷ rest) (suc n) h = class_past rest n (omega arith)
 
-bare_tree : (rows : List TypeRow) (n : ℕ) (o : Option TypeRow) → slice_get rows n ≡ o → o ≡ None → tree_of rows n ≡ Node n false [] End
+pub bare_tree : (rows : List TypeRow) (n : ℕ) (o : Option TypeRow) → slice_get rows n ≡ o → o ≡ None → tree_of rows n ≡ Node n false [] End
 bare_tree rows zero o e q = let z : slice_get rows zero ≡ None = e ∙ q in
     ap (λ x. Node zero x (own_in (slice_get rows zero)) End) (ap marked_in z) ∙ ap (λ x. Node zero false x End) (ap own_in z)
 bare_tree rows (suc n) o e q = let z : slice_get rows (suc n) ≡ None = e ∙ q in

@@ -9,5 +9,7 @@ pub mod Pushed
 pub mod Forming
 pub mod Judged
 pub mod Seeing
+pub mod Heading
 pub mod Found
 pub mod Keeping
+pub mod Running

@@ -51,15 +51,15 @@ homed_push rows o seen done all x n s r list l h m w d e f g a =
     subst (Homed rows) (sym a) (push_each (λ k v. HomedAt v (tree_of rows k)) done x d (subst (λ k. HomedAt (Some x) (tree_of rows k)) (sym l) z))
 
 -- the types seen stand before
-within_more : (n m : ℕ) (l : List Spot) → n ≤ m → Within n l → Within m l
+pub within_more : (n m : ℕ) (l : List Spot) → n ≤ m → Within n l → Within m l
 within_more n m [] h w = tt
 within_more n m (s ∷ ss) h w = (omega arith, within_more n m ss h w.1)
 
-within_append : (n : ℕ) (a b : List Spot) → Within n a → Within n b → Within n (a ++ b)
+pub within_append : (n : ℕ) (a b : List Spot) → Within n a → Within n b → Within n (a ++ b)
 within_append n [] b h g = g
 within_append n (s ∷ ss) b h g = (h.0, within_append n ss b h.1 g)
 
-within_lowered : (n k : ℕ) (l : List Spot) → Within n l → Within n (lowered k l)
+pub within_lowered : (n k : ℕ) (l : List Spot) → Within n l → Within n (lowered k l)
 within_lowered n k [] h = tt
 within_lowered n k (s ∷ ss) h = (h.0, within_lowered n k ss h.1)
 
@@ -70,7 +70,7 @@ within_list f p b k (s ∷ ss) e again = within_append k (lowered (at (merged_at
     (within_lowered k (at (merged_at p (is_up (f s))) b) (spots (f s)) (again s e.0))
     (within_list f (next p (topped (f s))) (b + room (merged_at p (is_up (f s))) (span (f s))) k ss e.1 again)
 
-within_grow : (rows : List TypeRow) → Ordered rows → (h n : ℕ) → n ≤ h → Within (suc n) (spots (grow (graph_of rows) h n))
+pub within_grow : (rows : List TypeRow) → Ordered rows → (h n : ℕ) → n ≤ h → Within (suc n) (spots (grow (graph_of rows) h n))
 within_grow rows o zero n l = (omega arith, tt)
 within_grow rows o (suc h) n l = (
   omega arith,

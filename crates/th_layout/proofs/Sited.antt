@@ -73,7 +73,7 @@ offset_from_is u k (x ∷ xs) q = by (nat_eq x q) (offset_from_is u (k + 1) xs q
     by true e = let z : k ≡ k + 0 = omega arith in ap (λ j. Some (offset (placed u j))) z
     by false e = e
 
-same_place : (x : Tree) (i : ℕ) → (is_up x ≡ true) ⊎ (is_up x ≡ false) → placed (is_up x) (base x + i) ≡ place x i
+pub same_place : (x : Tree) (i : ℕ) → (is_up x ≡ true) ⊎ (is_up x ≡ false) → placed (is_up x) (base x + i) ≡ place x i
 same_place x i (inl u) = let k : base x ≡ 0 = up_base x u in let z : base x + i ≡ i = omega arith in rw u (ap Above z)
 same_place x i (inr u) = rw u refl
 

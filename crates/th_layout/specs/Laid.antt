@@ -6,13 +6,15 @@ use Rattle.th_layout.specs.declared.sides.TypeSide.{TypeSide}
 use Rattle.th_layout.specs.declared.sides.ClassSide.{ClassSide}
 use Rattle.th_layout.specs.declared.sides.Places.{Places}
 use Rattle.th_layout.specs.declared.sides.Sums.{Sums}
-use Rattle.th_layout.specs.Known.{Done, Summed, Spotted, Tallied, Homed, Formed, HiddenAts, Viewed, Few, FewWords, FewFields}
+use Rattle.th_layout.specs.Known.{Done, Summed, Spotted, Tallied, Homed, Formed, HiddenAts, Viewed, Few, FewWords, FewFields, Shallow, Placed, Typed, HiddenNames}
+use Rattle.th_layout.specs.Given.{GivenTypes, GivenClasses, Arriving, Bodied}
+use Rattle.th_views.specs.Objects.{raised}
 use Rattle.th_views.specs.declared.TypeRow.{TypeRow}
 use Rattle.th_views.specs.Tree.{Tree}
 use Rattle.th_views.specs.Listed.{spots, first_of}
 use Rattle.th_views.specs.Lookups.{index_of, type_numbers, class_numbers}
 use Rattle.th_views.specs.Rows.{Program, tree_of, chain_of}
-use Rattle.th_views.specs.Sums.{sum, sum_words}
+use Rattle.th_views.specs.Sums.{sum, sum_words, class_slots}
 
 abbrev pub CastedAt : Option Casts → Tree → Type 0
 CastedAt None x = ⊥
@@ -40,6 +42,9 @@ pub record IsTypeSide (rows : List TypeRow) (a : TypeSide) : Type 0 where
   pub casts : (length a.casts.items ≡ length rows) × Casted rows a.casts.items
   pub offsets : (length a.offsets.items ≡ length rows) × Homed rows a.offsets.items
   pub few : Few rows
+  pub shallow : Shallow rows
+  pub depths : (length a.depths.items ≡ length rows) × Placed rows a.depths.items
+  pub gives : (length a.gives.items ≡ length rows) × GivenTypes rows a.gives.items
 
 pub record IsClassSide (p : Program) (a : ClassSide) : Type 0 where
   pub objects : (length a.objects.items ≡ length p.classes) × Formed p a.objects.items
@@ -47,3 +52,10 @@ pub record IsClassSide (p : Program) (a : ClassSide) : Type 0 where
   pub seen : (length a.seen.items ≡ length p.classes) × Viewed p a.seen.items
   pub few_words : FewWords p
   pub few_fields : FewFields p
+  pub few_slots : (c : ℕ) → class_slots (chain_of p c) ≤ 250
+  pub typed : Typed p
+  pub names : (length a.names.items ≡ length p.classes) × HiddenNames p a.names.items
+  pub raised : a.raised ≡ raised p.types
+  pub gives : (length a.gives.items ≡ length p.classes) × GivenClasses p.classes a.gives.items
+  pub arrives : (length a.arrives.items ≡ length p.classes) × Arriving p.classes a.arrives.items
+  pub bodies : (length a.bodies.items ≡ length p.classes) × Bodied p a.bodies.items

@@ -3,5 +3,7 @@ pub mod Maps
 pub mod Counts
 pub mod Known
 pub mod Refusals
+pub mod Given
 pub mod Laid
+pub mod Runs
 pub mod Inside

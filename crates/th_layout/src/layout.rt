@@ -1,8 +1,9 @@
 //! The layout of a program, and its look-ups.
 ghost use Rattle.std.specs.Option.{ForSome};
-ghost use Rattle.std.specs.Prelude.{◌≡◌, ◌≤◌, ◌<◌, ◌^◌, length, MatchResult};
+ghost use Rattle.std.specs.Prelude.{◌≡◌, ◌≤◌, ◌<◌, ◌^◌, length, IfOk, MatchResult};
 ghost use Rattle.th_layout.specs.Known.{Typed};
 ghost use Rattle.th_layout.specs.Refusals.{Accepted, RefusedBy};
+ghost use Rattle.th_layout.specs.Runs.{IsTable, IsTableAnswer};
 ghost use Rattle.th_views.specs.Lookups.{cast_at, cast_of, class_place, field_of, group_at, size_of, slot_of, sum_of, type_place, words_of};
 ghost use Rattle.th_views.specs.Objects.{Sound};
 
@@ -10,9 +11,10 @@ use crate::limits::LayoutError;
 use crate::sides::{
     ClassSide, Places, Sums, TypeSide, all_places, class_side, sums_within, type_side,
 };
-use std::alloc::Global;
+use crate::tables::table_at;
+use std::alloc::{AllocError, Global};
 use std::marker::Model;
-use th_views::{ClassRow, TypeRow};
+use th_views::{ClassRow, Slot, TypeRow};
 
 /// The layout of a program. A contract sees the program's types and classes.
 #[derive(Drop)]
@@ -189,5 +191,40 @@ impl Layout {
             return Some(4 * self.class_side.objects[place as usize].start);
         }
         None
+    }
+
+    /// The slots of the table at a header word of a class, from the lowest offset up; None exactly where
+    /// the number names no class, or its objects have no such header word.
+    pub fn table(
+        &self,
+        alloc: Global,
+        class: u32,
+        word: u32,
+    ) -> Result<Option<Vec<Slot>>, AllocError>
+        ensures { IfOk result (λ o. IsTableAnswer self.now (class_place self.now class) word o) }
+    {
+        let Some(place) = self.class_at(class) else {
+            return Ok(None);
+        };
+        if word >= self.class_side.objects[place as usize].words {
+            return Ok(None);
+        }
+        let slots = self.table_of(alloc, place, word)?;
+        Ok(Some(slots))
+    }
+
+    fn table_of(&self, alloc: Global, place: u32, word: u32) -> Result<Vec<Slot>, AllocError>
+        requires { place < length self.now.classes }
+        ensures { IfOk result (λ v. IsTable self.now place word v.items) }
+    {
+        table_at(
+            alloc,
+            &self.types,
+            &self.classes,
+            &self.type_side,
+            &self.class_side,
+            place as usize,
+            word,
+        )
     }
 }

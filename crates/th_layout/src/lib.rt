@@ -3,6 +3,7 @@
 
 mod counts;
 mod heads;
+mod heads_of;
 mod layout;
 mod limits;
 mod maps;
@@ -10,6 +11,7 @@ mod objects;
 mod seen;
 mod sides;
 mod slots;
+mod tables;
 mod views;
 
 pub use counts::Tally;

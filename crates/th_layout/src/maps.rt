@@ -39,7 +39,7 @@ pub fn words_by_type(alloc: Global, spots: &[Spot]) -> Result<HashMap<u32, u32>,
 }
 
 /// The offset in bytes of a slot from the middle word of its table: the k-th upward or downward, from 0.
-fn offset_of(upward: bool, k: u32) -> i32
+pub fn offset_of(upward: bool, k: u32) -> i32
     requires { k < 1000 }
     ensures { result ≡ offset (placed upward k) }
 {

@@ -10,6 +10,7 @@ ghost use Rattle.th_views.specs.Sums.{class_slots};
 
 use crate::counts::{Tally, all_greatest, all_plain, all_tallies};
 use crate::heads::{Facts, all_facts, all_sums};
+use crate::heads_of::{Heads, all_arrivals, all_bodies, all_class_heads, all_type_heads};
 use crate::limits::{LayoutError, class_names, judge, type_names};
 use crate::maps::{Casts, Offsets, all_casts, places};
 use crate::objects::{Object, all_hidden, all_objects};
@@ -18,6 +19,7 @@ use crate::slots::{all_depths, all_offsets, raised_of};
 use crate::views::{Spots, all_spots};
 use std::alloc::{AllocError, Global};
 use std::collections::HashMap;
+use th_type::NumberList;
 use th_views::{ClassRow, TypeRow};
 
 /// The places of types and of classes by their numbers.
@@ -41,6 +43,8 @@ pub struct TypeSide {
     pub spots: Vec<Spots>,
     pub casts: Vec<Casts>,
     pub offsets: Vec<Offsets>,
+    pub depths: Vec<u32>,
+    pub gives: Vec<Heads>,
 }
 
 /// What is known of each class, by its place.
@@ -49,6 +53,12 @@ pub struct ClassSide {
     pub objects: Vec<Object>,
     pub hidden: Vec<Offsets>,
     pub seen: Vec<Spots>,
+    pub names: Vec<NumberList>,
+    /// The greatest number of own methods of an upward type.
+    pub raised: u32,
+    pub gives: Vec<Heads>,
+    pub arrives: Vec<Heads>,
+    pub bodies: Vec<Heads>,
 }
 
 fn type_index(alloc: Global, types: &[TypeRow]) -> Result<HashMap<u32, u32>, AllocError>
@@ -120,11 +130,14 @@ pub fn type_side(alloc: Global, types: &[TypeRow]) -> Result<TypeSide, AllocErro
     let casts = all_casts(alloc, &spots)?;
     let depths = all_depths(alloc, types, &facts)?;
     let offsets = all_offsets(alloc, types, &spots, &facts, &depths)?;
+    let gives = all_type_heads(alloc, types)?;
     Ok(TypeSide {
         facts,
         spots,
         casts,
         offsets,
+        depths,
+        gives,
     })
 }
 
@@ -147,11 +160,20 @@ pub fn class_side(
 {
     let objects = all_objects(alloc, types, classes, &side.facts)?;
     let names = all_hidden(alloc, types, classes)?;
-    let hidden = all_hidden_offsets(alloc, types, classes, &names, raised_of(types))?;
+    let raised = raised_of(types);
+    let hidden = all_hidden_offsets(alloc, types, classes, &names, raised)?;
     let seen = all_seen(alloc, types, classes, &objects, &side.spots)?;
+    let gives = all_class_heads(alloc, classes)?;
+    let arrives = all_arrivals(alloc, classes)?;
+    let bodies = all_bodies(alloc, types, classes)?;
     Ok(ClassSide {
         objects,
         hidden,
         seen,
+        names,
+        raised,
+        gives,
+        arrives,
+        bodies,
     })
 }
