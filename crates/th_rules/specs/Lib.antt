@@ -1,0 +1,12 @@
+pub mod Context
+pub mod Resolving
+pub mod Cores
+pub mod Classes
+pub mod Supplies
+pub mod Callees
+pub mod Typing
+pub mod Failing
+pub mod Raising
+pub mod AllTyped
+pub mod Ways
+pub mod Laws

@@ -1,0 +1,47 @@
+//! The exceptions that are handled around a place or listed by the unit.
+ghost use Rattle.std.specs.Prelude.{◌≡◌};
+ghost use Rattle.th_type.specs.Lists.{is_in};
+ghost use Rattle.th_scope.specs.View.{handled_of};
+
+use th_hier::Numbers;
+
+/// The exceptions, by the numbers of their full names, that are handled around a place or listed by the unit: those that the
+/// unit lists, or those that a block handles and those around it.
+#[derive(Clone, Copy)]
+pub enum Handled<'a> {
+    Listed(&'a [u32]),
+    Block(&'a Numbers, &'a Handled<'a>),
+}
+
+/// Whether the number is one of them.
+fn is_listed(numbers: &[u32], number: u32) -> bool
+    ensures { result ≡ is_in number numbers.now }
+{
+    for other in numbers {
+        if number == *other {
+            return true;
+        }
+    }
+    false
+}
+
+impl<'a> Handled<'a> {
+    /// Whether the exception is handled or listed.
+    #[tactic(auto, using(crate::proofs::Deciding::in_append))]
+    pub fn has(&self, number: u32) -> bool
+        ensures { result ≡ is_in number (handled_of self.now) }
+    {
+        let mut rest = self;
+        loop {
+            match rest {
+                Handled::Listed(numbers) => return is_listed(numbers, number),
+                Handled::Block(numbers, others) => {
+                    if numbers.has(number) {
+                        return true;
+                    }
+                    rest = others;
+                }
+            }
+        }
+    }
+}
