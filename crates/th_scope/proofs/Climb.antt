@@ -1,5 +1,5 @@
 -- The method of a class, looked for through so many classes.
-use Rattle.std.proofs.Common.{◌≡◌, ℕ, zero, suc, ◌<◌, ◌≤◌, ◌-◌, List, Option, Some, None, option_map, refl, sym, ap, subst, ◌∙◌, arith}
+use Rattle.std.proofs.Common.{◌≡◌, ℕ, zero, suc, ◌<◌, ◌≤◌, ◌-◌, List, Option, Some, None, option_map, refl, ap, subst, arith}
 use Rattle.th_type.specs.Types.{TypeExpr}
 use Rattle.th_type.specs.Signatures.{Signature, subst_sig, find_sig}
 use Rattle.th_type.specs.Methods.{method_at}

@@ -1,3 +1,4 @@
 pub mod Walking
 pub mod Deciding
 pub mod Climb
+pub mod Places

@@ -1,9 +1,9 @@
 -- The walk over types, from the first to the last.
-use Rattle.std.proofs.Common.{◌≡◌, ℕ, List, ◌++◌, Option, Some, None, refl, sym, ap, ◌∙◌}
+use Rattle.std.proofs.Common.{◌≡◌, List, Option, Some, None, refl, sym, ◌∙◌}
 use Rattle.th_type.specs.declared.place.Failure.{Failure}
 use Rattle.th_type.specs.Failures.{lowest}
-use Rattle.th_type.specs.Types.{TypeExpr, TypeExprs, no_ty, more_ty, tys_onto}
-use Rattle.th_tree.specs.Trees.{TypeSyn, TypeSyns, no_type, more_types}
+use Rattle.th_type.specs.Types.{TypeExpr, TypeExprs, no_ty}
+use Rattle.th_tree.specs.Trees.{TypeSyns, no_type, more_types}
 use Rattle.th_rules.specs.Context.{Binding, Context}
 use Rattle.th_hier.specs.Resolve.{before_types}
 use Rattle.th_rules.specs.Resolving.{resolved_type, resolved_types, type_fails, types_fails}

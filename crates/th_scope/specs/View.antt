@@ -1,16 +1,9 @@
 -- What the code holds, without where it lies in memory.
-use Rattle.std.specs.Prelude.{ℕ, List, [], ◌∷◌, ◌++◌, map, Option, Some, None, option_map}
-use Rattle.th_type.specs.Types.{ty_of, tys_of}
+use Rattle.std.specs.Prelude.{ℕ, List, ◌++◌, map, Option, Some, None}
+use Rattle.th_type.specs.Types.{tys_of}
 use Rattle.th_type.specs.Signatures.{sig_of, clause_of}
-use Rattle.th_scope.specs.declared.local.Local.{Local}
-use Rattle.th_scope.specs.declared.local.LocalList.{LocalList}
-use Rattle.th_scope.specs.declared.local.LocalList.TheVariants.{NoLocal, MoreLocal'}
-use Rattle.th_scope.specs.declared.item.RoutineItem.{RoutineItem}
-use Rattle.th_scope.specs.declared.item.ClassItem.{ClassItem}
-use Rattle.th_scope.specs.declared.item.Head.{Head as ItemHead}
-use Rattle.th_scope.specs.declared.item.Head.TheVariants as heads
-use Rattle.th_scope.specs.declared.item.Item.{Item as CodeItem}
-use Rattle.th_scope.specs.declared.item.Items.{Items}
+pub use Rattle.th_scope.specs.ItemView.{binding_of, locals_of, routine_of, class_of, item_head_of, item_of}
+use Rattle.th_scope.specs.declared.items.Items.{Items}
 use Rattle.th_scope.specs.declared.env.Env.{Env}
 use Rattle.th_scope.specs.declared.naming.Meant.{Meant}
 use Rattle.th_scope.specs.declared.naming.Meant.TheVariants as meant
@@ -18,43 +11,7 @@ use Rattle.th_scope.specs.declared.handled.Handled.{Handled}
 use Rattle.th_scope.specs.declared.handled.Handled.TheVariants as handled
 use Rattle.th_scope.specs.declared.class_use.ClassPart.{ClassPart}
 use Rattle.th_rules.specs.Resolving.{ClassUse}
-use Rattle.th_rules.specs.Context.{Context, Meaning, no_meaning, local_meaning, param_meaning, item_meaning, Binding, RoutineInfo, ClassInfo, Head, exception_head, type_head, class_head, routine_head, Item}
-
--- a local
-abbrev pub binding_of : Local → Binding
-binding_of l = record { name = l.name; of = option_map ty_of l.ty; index = l.index }
-
--- locals, the nearest first
-abbrev pub locals_of : LocalList → List Binding
-locals_of NoLocal = []
-locals_of (MoreLocal' l i ls) = binding_of l ∷ locals_of ls
-
--- a routine or an iterator
-abbrev pub routine_of : RoutineItem → RoutineInfo
-routine_of r = record { params = r.params; sig = sig_of r.sig; clauses = map clause_of r.clauses.items }
-
--- a class
-abbrev pub class_of : ClassItem → ClassInfo
-class_of c = record {
-  params = c.params;
-  of = ty_of c.of;
-  inherits = option_map ty_of c.inherits;
-  clauses = map clause_of c.clauses.items;
-  init = sig_of c.init;
-  hidden = map sig_of c.hidden.items;
-  fields = locals_of c.fields;
-}
-
--- what an item is
-abbrev pub item_head_of : ItemHead → Head
-item_head_of (heads.Exception t) = exception_head (option_map ty_of t)
-item_head_of (heads.Declared k) = type_head k
-item_head_of (heads.Class c) = class_head (class_of c)
-item_head_of (heads.Routine r) = routine_head (routine_of r)
-
--- an item
-abbrev pub item_of : CodeItem → Item
-item_of i = record { name = i.name; from = i.from; full = i.full; head = item_head_of i.head }
+use Rattle.th_rules.specs.Context.{Context, Meaning, no_meaning, local_meaning, param_meaning, item_meaning, Item}
 
 -- items
 abbrev pub items_of : Items → List Item

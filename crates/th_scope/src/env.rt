@@ -1,7 +1,7 @@
 //! What is known where a unit stands.
 ghost use Rattle.th_rules.specs.Ways.{WaysEnd};
 
-use crate::item::Items;
+use crate::items::Items;
 use crate::local::LocalList;
 use th_hier::{Hierarchy, Numbers};
 use th_tree::NameTable;

@@ -6,7 +6,8 @@ ghost use Rattle.th_rules.specs.Context.{bare_meaning, find_item, full_meaning, 
 ghost use Rattle.th_scope.specs.View.{context_of, item_head_of, item_of, items_of, locals_of, meant_of};
 
 use crate::env::Env;
-use crate::item::{Head, Item, Items};
+use crate::item::{Head, Item};
+use crate::items::Items;
 use crate::local::{Local, LocalList};
 use th_hier::{Entry, Referent, Sort};
 use th_tree::RefTree;

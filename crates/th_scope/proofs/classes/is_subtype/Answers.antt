@@ -1,4 +1,3 @@
-use Rattle.std.proofs.Common.{◌≡◌}
 use Rattle.th_type.specs.Types.{ty_of}
 use Rattle.th_rules.specs.Classes.{is_subtype}
 use Rattle.th_rules.proofs.Subtyping.{test_decides}

@@ -1,7 +1,6 @@
-use Rattle.std.proofs.Common.{◌∙◌, ap, sym, Some}
+use Rattle.std.proofs.Common.{◌∙◌, ap, sym}
 use Rattle.th_tree.specs.declared.tree.TypeList.{TypeList}
 use Rattle.th_tree.specs.View.{types_of}
-use Rattle.th_type.specs.Types.{no_ty}
 use Rattle.th_hier.specs.Views.{tys_opt}
 use Rattle.th_scope.specs.View.{context_of, locals_of}
 use Rattle.th_scope.proofs.Walking.{means_along, means_is, least_along, least_is}
