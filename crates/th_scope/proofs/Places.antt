@@ -87,12 +87,16 @@ finds from n all k (i ∷ is) h = by (finds from n all (suc k) is (item_there al
   where
     r : Reference
     r = record { from = from; name = n }
+
     own : Reference
     own = record { from = i.from; name = i.name }
+
     turned : same_origin i.from from && nat_eq i.name n ≡ same_reference r own
     turned = same_symm own r
+
     there : (slice_get all k ≡ Some i) × (drop (suc k) all ≡ is)
     there = item_there all k i is h
+
     by : item_at all (place_from (is_named r) (suc k) is) ≡ find_item is from n → (b : Bool) → same_reference r own ≡ b
         → item_at all (if same_reference r own then Some k else place_from (is_named r) (suc k) is) ≡ (if same_origin i.from from && nat_eq i.name n then Some i else find_item is from n)
     by rest true e = ap (λ (b : Bool). item_at all (if b then Some k else place_from (is_named r) (suc k) is)) e ∙ there.0 ∙ sym (ap (λ (b : Bool). if b then Some i else find_item is from n) (turned ∙ e))
@@ -106,15 +110,20 @@ finds_class n all k (i ∷ is) h = by (finds_class n all (suc k) is (item_there 
   where
     there : (slice_get all k ≡ Some i) × (drop (suc k) all ≡ is)
     there = item_there all k i is h
+
     Rest : Type 0
     Rest = class_in (item_at all (place_from (is_class_named n) (suc k) is)) ≡ class_at is n
+
     at : Bool → Option ClassInfo
     at b = class_in (item_at all (if b then Some k else place_from (is_class_named n) (suc k) is))
+
     other : Rest → (h : Head) → head_class h ≡ None → i.head ≡ h → at (is_class_named n i) ≡ class_at is n
     other rest h none e = ap (λ (o : Option ClassInfo). at (is_class o (nat_eq n i.full))) (ap head_class e ∙ none) ∙ rest
+
     is_one : Rest → (c : ClassInfo) → i.head ≡ class_head c → (b : Bool) → nat_eq n i.full ≡ b → at b ≡ (if b then Some c else class_at is n)
     is_one rest c e true same = ap class_in there.0 ∙ ap head_class e
     is_one rest c e false same = rest
+
     by : Rest → (h : Head) → i.head ≡ h → at (is_class_named n i) ≡ class_or i.full n i.head (class_at is n)
     by rest (exception_head t) e = other rest (exception_head t) refl e ∙ sym (ap (λ (x : Head). class_or i.full n x (class_at is n)) e)
     by rest (type_head m) e = other rest (type_head m) refl e ∙ sym (ap (λ (x : Head). class_or i.full n x (class_at is n)) e)
