@@ -166,6 +166,18 @@ impl Hierarchy {
     }
 }
 
+/// Whether the names of the table and the items of the interfaces are together few enough for `Hierarchy::of`: fewer than
+/// 2^32 - 1.
+pub fn has_room(names: &NameTable, interfaces: &[Interface]) -> bool
+    ensures { IsTrue result ↔ (length names.now + item_count (map interface_of interfaces.now) < 2 ^ 32 - 1) }
+{
+    let mut count = names.len();
+    for interface in interfaces {
+        count = count.saturating_add(interface.items.len());
+    }
+    count < 0xffff_ffff
+}
+
 /// The type that the tree means in the scope, or the first byte at which one of its names means no type or has another number
 /// of arguments than parameters.
 pub fn resolve(

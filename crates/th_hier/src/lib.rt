@@ -16,7 +16,7 @@ mod texts;
 mod walk;
 
 pub use heads::{Parts, exception_of};
-pub use hierarchy::{HierError, Hierarchy, resolve};
+pub use hierarchy::{HierError, Hierarchy, has_room, resolve};
 pub use index::{Home, Index, Sight};
 pub use item::{Entry, ItemName, Referent, Sort};
 pub use members::{walk_sig, walk_sigs, walk_super, walk_supers};
