@@ -1,0 +1,9 @@
+pub mod Registers
+pub mod Words
+pub mod Sequences
+pub mod Numbers
+pub mod Control
+pub mod Outside
+pub mod Table
+pub mod Entry
+pub mod Labels
