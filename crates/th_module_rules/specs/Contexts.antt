@@ -155,7 +155,7 @@ items_of_interface items v i seen [] = []
 items_of_interface items v i seen (x ∷ xs) =
     if has seen (item_name x).name then items_of_interface items v i seen xs
     else item_with (Some i) (item_name x).name (full_in items i (item_name x).name) (interface_head items v x)
-      ++ items_of_interface items v i (with_number seen (item_name x).name) xs
+    ++ items_of_interface items v i (with_number seen (item_name x).name) xs
 
 -- the items of interfaces, each the first of its name
 abbrev pub interface_items : Items → List ℕ → List InterfaceSyn → List Item
@@ -219,7 +219,12 @@ module_items table h fs m =
 -- signature, and of a class where it is a method's body
 abbrev pub unit_context : ℕ → List (List ℕ) → TypeHierarchy → List Item → ModuleSyn → List Ident → List Constraint → Signature → Option ℕ → Context
 unit_context text table h items m ps cs s c = record {
-  text = text; names = table; types = h.types; items = items;
+  text = text;
+  names = table;
+  types = h.types;
+  items = items;
   visible = record { text = None; implements = implemented m; uses = different (map (λ u. u.name) m.uses); params = different (map (λ p. p.name) ps) };
-  clauses = cs; sig = s; class = c;
+  clauses = cs;
+  sig = s;
+  class = c;
 }

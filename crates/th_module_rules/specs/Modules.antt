@@ -152,5 +152,11 @@ judged text table h fs m =
     let others = interface_items h.items [] fs in
     let bs = own_bases (own_full table h.items m) all v [] m.items in
     record {
-      text = text; table = table; hierarchy = h; items = module_items table h fs m; bases = bs ++ item_bases others; own = map (λ b. b.full) bs; tree = m;
+      text = text;
+      table = table;
+      hierarchy = h;
+      items = module_items table h fs m;
+      bases = bs ++ item_bases others;
+      own = map (λ b. b.full) bs;
+      tree = m;
     }

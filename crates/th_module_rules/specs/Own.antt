@@ -49,7 +49,7 @@ own_items table items m seen [] = []
 own_items table items m seen (i ∷ is) =
     if has seen (item_name i).name then own_items table items m seen is
     else (record { interface = own_scope table m; name = (item_name i).name }, record { full = own_full table items m (item_name i).name; sort = item_sort i })
-      ∷ own_items table items m (with_number seen (item_name i).name) is
+    ∷ own_items table items m (with_number seen (item_name i).name) is
 
 -- the items that can be found by name in a module: its own, and those of interfaces
 abbrev pub all_items : List (List ℕ) → Items → ModuleSyn → Items

@@ -69,9 +69,14 @@ FailsThird p f =
 -- what is known where a class of an interface inherits
 abbrev pub interface_context : Program → ℕ → ClassInfo → Context
 interface_context p text c = record {
-  text = text; names = p.table; types = (hierarchy_in p).types; items = interface_items (hierarchy_in p).items [] (interface_trees p);
+  text = text;
+  names = p.table;
+  types = (hierarchy_in p).types;
+  items = interface_items (hierarchy_in p).items [] (interface_trees p);
   visible = record { text = None; implements = None; uses = []; params = [] };
-  clauses = c.clauses; sig = bare_sig 0; class = None;
+  clauses = c.clauses;
+  sig = bare_sig 0;
+  class = None;
 }
 
 -- the failures of the where-clauses of an inherited class, in an item of an interface

@@ -18,7 +18,10 @@ use Rattle.th_module_rules.specs.Modules.{Judged, context_in, found_in, inherite
 -- a signature with full names
 abbrev pub core_sig : List (List ℕ) → Signature → core.Signature
 core_sig names s = record {
-  iterator = s.iterator; formals = map (core_type names) (list_of s.formals); gives = option_map (core_type names) s.gives; signals = map (name_at names) s.signals;
+  iterator = s.iterator;
+  formals = map (core_type names) (list_of s.formals);
+  gives = option_map (core_type names) s.gives;
+  signals = map (name_at names) s.signals;
 }
 
 -- a clause with full names
@@ -33,7 +36,7 @@ unit_with names name sort params cs s b = record { name = name; sort = sort; par
 abbrev pub routine_unit : Judged → ℕ → RoutineSyn → Head → Option ProgramUnit
 routine_unit J full r (routine_head i) =
     option_map (unit_with J.table (name_at J.table full) of_routine i.params i.clauses i.sig)
-      (unit_core (context_in J r.head.params i.clauses i.sig None) (bindings (found_in J) (seen_in J r.head.params) 0 r.head.formals) r.body)
+    (unit_core (context_in J r.head.params i.clauses i.sig None) (bindings (found_in J) (seen_in J r.head.params) 0 r.head.formals) r.body)
 routine_unit J full r (exception_head t) = None
 routine_unit J full r (type_head k) = None
 routine_unit J full r (class_head c) = None
@@ -43,7 +46,7 @@ abbrev pub method_unit : Judged → List Ident → ClassInfo → ℕ → MethodS
 method_unit J ps c full m =
     let name = name_at J.table full in
     option_map (unit_with J.table (method_name name (name_at J.table m.sig.name.name)) (of_method name (name_at J.table m.sig.name.name)) c.params c.clauses (method_sig J ps m.sig))
-      (unit_core (context_in J ps c.clauses (method_sig J ps m.sig) (Some full)) (bindings (found_in J) (seen_in J ps) 0 m.sig.formals) m.body)
+    (unit_core (context_in J ps c.clauses (method_sig J ps m.sig) (Some full)) (bindings (found_in J) (seen_in J ps) 0 m.sig.formals) m.body)
 
 abbrev pub method_units : Judged → List Ident → ClassInfo → ℕ → List MethodSyn → Option (List ProgramUnit)
 method_units J ps c full [] = Some []
@@ -54,7 +57,7 @@ abbrev pub init_unit : Judged → ClassSyn → ClassInfo → ℕ → Option Prog
 init_unit J s c full =
     let C = context_in J s.head.params c.clauses c.init None in
     option_map (unit_with J.table (init_name (name_at J.table full)) (of_init (name_at J.table full)) c.params c.clauses c.init)
-      (init_core C (bindings (found_in J) (seen_in J s.head.params) 0 s.init.head.formals) (name_at J.table full) c (inherited_at C c.inherits) s.init)
+    (init_core C (bindings (found_in J) (seen_in J s.head.params) 0 s.init.head.formals) (name_at J.table full) c (inherited_at C c.inherits) s.init)
 
 -- the units of a class: its initializer and its methods, in the order of the text
 abbrev pub class_units : Judged → ℕ → ClassSyn → Head → Option (List ProgramUnit)

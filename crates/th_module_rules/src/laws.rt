@@ -2,7 +2,6 @@
 ghost use Rattle.th_module_rules.specs.Laws.{NoneIsNamed, OneIsNamed};
 
 /// A law: at most one failure is named of the texts of a program, and none where every rule holds.
-#[tactic(auto, using(crate::proofs::Naming::one_is_named, crate::proofs::Naming::none_is_named))]
 pub fn refusals_law()
     ensures one { OneIsNamed }
     ensures none { NoneIsNamed }
