@@ -1,0 +1,12 @@
+pub mod Own
+pub mod Clauses
+pub mod Inheriting
+pub mod Contexts
+pub mod ClassRules
+pub mod Initializers
+pub mod Modules
+pub mod Stages
+pub mod Units
+pub mod Limits
+pub mod Laws
+pub mod Texts
