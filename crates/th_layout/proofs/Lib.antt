@@ -13,3 +13,5 @@ pub mod Heading
 pub mod Found
 pub mod Keeping
 pub mod Running
+pub mod Viewing
+pub mod Narrowing
