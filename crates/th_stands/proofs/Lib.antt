@@ -1,0 +1,14 @@
+pub mod Memory
+pub mod Instructions
+pub mod Sequences
+pub mod Keeping
+pub mod Restand
+pub mod Signed
+pub mod Rows
+pub mod Compares
+pub mod Failing
+pub mod Sums
+pub mod Laws
+pub mod Outside
+pub mod Opposite
+pub mod MoreLaws
