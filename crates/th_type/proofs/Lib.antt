@@ -5,9 +5,12 @@ pub mod Substitution
 pub mod Members
 pub mod Subtyping
 pub mod Closure
+pub mod Pooled
+pub mod Pooling
 pub mod Lookups
 pub mod Resolved
 pub mod Taken
+pub mod Held
 pub mod Climbing
 pub mod Noting
 pub mod Judging

@@ -8,6 +8,7 @@ pub mod Subtypes
 pub mod Methods
 pub mod Rules
 pub mod Closure
+pub mod Pool
 pub mod Tables
 pub mod Cycles
 pub mod Judged

@@ -229,6 +229,16 @@ impl<'a> Args<'a> {
             Args::List(list) => list.get(place as usize),
         }
     }
+
+    /// Whether the argument at a place is the type; where there is none, whether the type is the parameter.
+    pub(crate) fn is_at(&self, place: u32, ty: &Ty) -> bool
+        ensures { result ≡ same_ty (arg_at (args_items self.now) place place) (ty_of ty.now) }
+    {
+        match self.get(place) {
+            Some(arg) => arg.is_same(ty),
+            None => ty.is_param(place),
+        }
+    }
 }
 
 /// The type with the k-th argument in place of each parameter `k`.
@@ -291,30 +301,6 @@ impl TyList {
 }
 
 impl Ty {
-    /// Whether the type, with arguments in place of parameters, is the other.
-    #[cycle(matching)]
-    pub(crate) fn is_with(&self, args: Args<'_>, other: &Ty) -> bool
-        ensures { result ≡ same_ty (subst_ty (args_items args.entry) (ty_of self.now)) (ty_of other.now) }
-    {
-        match self {
-            Ty::Int => matches!(other, Ty::Int),
-            Ty::Bool => matches!(other, Ty::Bool),
-            Ty::Text => matches!(other, Ty::Text),
-            Ty::Array(of) => match other {
-                Ty::Array(other) => of.is_with(args, other),
-                _ => false,
-            },
-            Ty::Named(name, list) => match other {
-                Ty::Named(other, others) => *name == *other && list.is_with(args, others),
-                _ => false,
-            },
-            Ty::Param(place) => match args.get(*place) {
-                Some(arg) => arg.is_same(other),
-                None => other.is_param(*place),
-            },
-        }
-    }
-
     /// Whether the type is a parameter.
     pub(crate) fn is_any_param(&self) -> bool
         ensures { result ≡ is_param_ty (ty_of self.now) }
@@ -332,30 +318,6 @@ impl Ty {
         match self {
             Ty::Param(other) => place == *other,
             _ => false,
-        }
-    }
-}
-
-impl TyList {
-    /// Whether the types, with arguments in place of parameters, are the others in order.
-    #[cycle(matching)]
-    pub(crate) fn is_with(&self, args: Args<'_>, others: &TyList) -> bool
-        ensures { result ≡ same_tys (subst_tys (args_items args.entry) (tys_of self.now)) (tys_of others.now) }
-    {
-        let mut left = self;
-        let mut right = others;
-        loop {
-            match (left, right) {
-                (TyList::NoTy, TyList::NoTy) => return true,
-                (TyList::MoreTy(a, more), TyList::MoreTy(b, rest)) => {
-                    if !a.is_with(args, b) {
-                        return false;
-                    }
-                    left = more;
-                    right = rest;
-                }
-                _ => return false,
-            }
         }
     }
 }

@@ -854,3 +854,35 @@ fn heights(rt: HostRuntime) -> Result<(), Fail> {
     }
     Ok(())
 }
+
+/// An interface with a chain of so many types above one another, each of which takes this argument to the one below it, and the
+/// byte where the name of the last of them starts.
+fn chain(alloc: Global, count: u32, arg: &str) -> Result<(String, u32), Fail> {
+    let mut text = "interface i; type p[a, b]; end type t0[a]; end".to_string(alloc)?;
+    let mut at = 0;
+    for k in 0..count {
+        text.push_str(" type ")?;
+        at = text.len() as u32;
+        let next = k.saturating_add(1);
+        text.push_str(&format!(in alloc; "t{next}[a] < t{k}[{arg}]; end")?)?;
+    }
+    text.push_str(" end")?;
+    Ok((text, at))
+}
+
+/// Arguments that grow along a chain of types, and how long the chain may be before rule 6 fails. The size of the second doubles
+/// from type to type.
+const CHAINS: &[(&str, u32)] = &[("array[a]", 598), ("p[a, a]", 598), ("p[a, p[a, a]]", 299)];
+
+#[test]
+fn chains(rt: HostRuntime) -> Result<(), Fail> {
+    for &(arg, most) in CHAINS {
+        let (text, _) = chain(rt.alloc(), most, arg)?;
+        let found = refusal(&rt, rt.alloc(), &[text.as_str()])?;
+        assert_eq!(rt; found, None, "{arg}");
+        let (text, at) = chain(rt.alloc(), most.saturating_add(1), arg)?;
+        let found = refusal(&rt, rt.alloc(), &[text.as_str()])?;
+        assert_eq!(rt; found, Some((6, Place { text: 0, at })), "{arg}");
+    }
+    Ok(())
+}

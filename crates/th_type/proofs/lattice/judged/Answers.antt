@@ -9,27 +9,27 @@ use Rattle.th_type.proofs.lattice.judged.Goals as goal
 pub returns-in-Some : goal.returns-in-Some
 returns-in-Some c =
     subst (λ ds. IsNamed ds c.args.found c.in-Some.failure) c.in_ok-defs.ensures
-    (named_first (defs_of c.in_ok-defs.defs) c.args.found c.judge_supertypes.new.found c.in_ok-ancestors.ancestors.map.entries c.in-Some.failure c.in_ok-ancestors.ensures c.in-Some.is)
+    (named_first (defs_of c.in_ok-defs.defs) c.args.found c.judge_supertypes.new.found c.in_ok-ancestors.ancestors c.in-Some.failure c.in_ok-ancestors.ensures c.in-Some.is)
 
 pub tabulate-requires-clause-ascended : goal.tabulate-requires-clause-ascended
 tabulate-requires-clause-ascended c =
-    ascended_of (defs_of c.in_ok-defs.defs) c.args.found c.judge_supertypes.new.found c.in_ok-ancestors.ancestors.map.entries c.in_ok-ancestors.ensures c.in-None.is
+    ascended_of (defs_of c.in_ok-defs.defs) c.args.found c.judge_supertypes.new.found c.in_ok-ancestors.ancestors c.in_ok-ancestors.ensures c.in-None.is
 
 pub returns-in-Some-least : goal.returns-in-Some-least
 returns-in-Some-least c =
     subst (λ ds. IsNamed ds c.args.found c.in-Some-least.failure) c.in_ok-defs.ensures
-    (named_second (defs_of c.in_ok-defs.defs) (subst (λ ds. WellFormed ds) (sym c.in_ok-defs.ensures) c.requires) c.args.found c.judge_supertypes.new.found c.judge_methods.new.found c.in_ok-ancestors.ancestors.map.entries c.in_ok-methods.methods.map.entries c.in-Some-least.failure
+    (named_second (defs_of c.in_ok-defs.defs) (subst (λ ds. WellFormed ds) (sym c.in_ok-defs.ensures) c.requires) c.args.found c.judge_supertypes.new.found c.judge_methods.new.found c.in_ok-ancestors.ancestors c.in_ok-methods.methods.map.entries c.in-Some-least.failure
     c.in_ok-ancestors.ensures c.in-None.is c.in_ok-methods.ensures c.in_ok-judge_methods.ensures c.in-Some-least.is)
 
 pub invariant_of-result : goal.invariant_of-result
 invariant_of-result c =
-    lattice_right (defs_of c.in_ok-defs.defs) (subst (λ ds. WellFormed ds) (sym c.in_ok-defs.ensures) c.requires) c.args.found c.judge_supertypes.new.found c.in_ok-ancestors.ancestors.map.entries c.in_ok-methods.methods.map.entries (rows_of c.in_ok-rows-in-None-least.rows.entries) c.in_ok-heads-in-None-least.heads.items
+    lattice_right (defs_of c.in_ok-defs.defs) (subst (λ ds. WellFormed ds) (sym c.in_ok-defs.ensures) c.requires) c.args.found c.judge_supertypes.new.found c.in_ok-ancestors.ancestors c.in_ok-methods.methods.map.entries (rows_of c.in_ok-rows-in-None-least.rows.entries) c.in_ok-heads-in-None-least.heads.items
     c.in_ok-ancestors.ensures c.in-None.is c.in_ok-methods.ensures c.in_ok-rows-in-None-least.ensures c.in_ok-heads-in-None-least.ensures.sorted c.in_ok-heads-in-None-least.ensures.permutation
 
 pub returns : goal.returns
 returns c = (
   c.in_ok-rows-in-None-least.ensures ∙ ap declared_types c.in_ok-defs.ensures,
   subst (λ ds. NoneFails ds c.args.found) c.in_ok-defs.ensures
-      (none_fails (defs_of c.in_ok-defs.defs) (subst (λ ds. WellFormed ds) (sym c.in_ok-defs.ensures) c.requires) c.args.found c.judge_supertypes.new.found c.judge_methods.new.found c.in_ok-ancestors.ancestors.map.entries c.in_ok-methods.methods.map.entries
+      (none_fails (defs_of c.in_ok-defs.defs) (subst (λ ds. WellFormed ds) (sym c.in_ok-defs.ensures) c.requires) c.args.found c.judge_supertypes.new.found c.judge_methods.new.found c.in_ok-ancestors.ancestors c.in_ok-methods.methods.map.entries
       c.in_ok-ancestors.ensures c.in-None.is c.in_ok-methods.ensures c.in_ok-judge_methods.ensures c.in-None-least.is),
 )
