@@ -1,0 +1,4 @@
+pub mod Fits
+pub mod Judge
+pub mod Spots
+pub mod Laws

@@ -1,0 +1,5 @@
+use Rattle.th_fits.proofs.DecidingUnits.{map_ok, statements_decide}
+use Rattle.th_fits.proofs.unit.routine_fits.Goals as goal
+
+pub returns : goal.returns
+returns g c = map_ok c.statements_fit.result _ _ (λ b e. statements_decide _ _ (g.met.O.Outline.decides c.args.outline.now) _ b e) c.statements_fit.ensures

@@ -1,0 +1,3 @@
+pub mod JudgeStmts
+pub mod FitsUnit
+pub mod JudgeUnits

@@ -1,0 +1,3 @@
+pub mod FullNames
+pub mod Standing
+pub mod Examples

@@ -1,0 +1,6 @@
+use Rattle.std.proofs.Common.{◌≡◌, drop, bytes_eq}
+use Rattle.std.specs.List.{list_any}
+use Rattle.th_subst.proofs.same.is_one_of.Given as goal
+
+abbrev pub invariant-loop-other : goal.invariant-loop-other
+invariant-loop-other l = list_any (λ y. bytes_eq y l.name) (drop l.other-index l.names) ≡ list_any (λ y. bytes_eq y l.name) l.names
