@@ -1,0 +1,4 @@
+pub mod Giving
+pub mod NewLaws
+pub mod NoCall
+pub mod Refusing
