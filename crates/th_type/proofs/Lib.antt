@@ -14,6 +14,7 @@ pub mod Judging
 pub mod Ascent
 pub mod MethodLists
 pub mod Ranks
+pub mod Ending
 pub mod Filling
 pub mod Exact
 pub mod Testing

@@ -5,6 +5,7 @@ pub mod Failures
 pub mod Signatures
 pub mod Declarations
 pub mod Subtypes
+pub mod Ways
 pub mod Methods
 pub mod Rules
 pub mod Closure

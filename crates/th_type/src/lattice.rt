@@ -10,6 +10,7 @@ ghost use Rattle.th_type.specs.Methods.{method_of};
 ghost use Rattle.th_type.specs.Rules.{WellFormed, IsNamed, NoneFails};
 ghost use Rattle.th_type.specs.MethodTables.{Rising};
 ghost use Rattle.th_type.specs.Refusals.{RefusedBy};
+ghost use Rattle.th_type.specs.Ways.{WaysEnd};
 
 use crate::defs::Defs;
 use crate::judge::judge_supertypes;
@@ -69,7 +70,8 @@ fn judged(
     mut found: Option<Failure>,
 ) -> Result<Result<Lattice, Failure>, AllocError>
     requires { WellFormed (decls_of declared.items) }
-    ensures { IfOk result (λ r. MatchResult r (λ l. (l ≡ declared_types (decls_of declared.items)) × NoneFails (decls_of declared.items) found) (λ f. IsNamed (decls_of declared.items) found f)) }
+    ensures answer { IfOk result (λ r. MatchResult r (λ l. (l ≡ declared_types (decls_of declared.items)) × NoneFails (decls_of declared.items) found) (λ f. IsNamed (decls_of declared.items) found f)) }
+    ensures ends { IfOk result (λ r. IfOk r (λ l. WaysEnd l)) }
 {
     let defs = Defs::of(alloc, declared)?;
     let ancestors = judge_supertypes(alloc, &defs, &mut found)?;
@@ -104,7 +106,8 @@ impl Lattice {
         found: Option<Failure>,
     ) -> Result<Lattice, LatticeError>
         requires { WellFormed (decls_of declared.items) }
-        ensures { MatchResult result (λ l. (l ≡ declared_types (decls_of declared.items)) × NoneFails (decls_of declared.items) found) (λ e. RefusedBy (decls_of declared.items) found e) }
+        ensures answer { MatchResult result (λ l. (l ≡ declared_types (decls_of declared.items)) × NoneFails (decls_of declared.items) found) (λ e. RefusedBy (decls_of declared.items) found e) }
+        ensures ends { IfOk result (λ l. WaysEnd l) }
     {
         match judged(alloc, declared, found) {
             Ok(Ok(lattice)) => Ok(lattice),
