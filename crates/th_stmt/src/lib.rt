@@ -1,0 +1,9 @@
+//! The checker of statements. docs/LANGUAGE.md, "Rules of statements", states their rules.
+#![tactic(auto)]
+
+mod check;
+mod ending;
+mod walk;
+
+pub use check::{check_body, walk_unit};
+pub use ending::ends_lawfully;
