@@ -10,6 +10,7 @@ ghost use Rattle.th_type.specs.Subtypes.{Subtype};
 ghost use Rattle.th_type.specs.Methods.{method_of};
 ghost use Rattle.th_type.specs.MethodTables.{Rising};
 ghost use Rattle.th_type.specs.Failures.{lowest};
+ghost use Rattle.th_type.specs.Ordering.{SupersFirst};
 ghost use Rattle.th_type.specs.Declarations.{decls_of, params_of, sigs_of, supers_of};
 ghost use Rattle.th_type.specs.Rules.{WellFormed};
 ghost use Rattle.th_hier.specs.Numbering.{item_count, numbered_items, numbering, AllNamed, Grown};
@@ -140,6 +141,14 @@ impl Hierarchy {
         ensures all { IsPermutation (map (λ d. d.name) self.now.types) result.now }
     {
         self.lattice.heads()
+    }
+
+    /// The numbers of all declared types, each after its declared supertypes.
+    pub fn supers_first(&self, alloc: Global) -> Result<Vec<u32>, AllocError>
+        ensures order { IfOk result (λ order. SupersFirst self.now.types order.items) }
+        ensures all { IfOk result (λ order. IsPermutation (map (λ d. d.name) self.now.types) order.items) }
+    {
+        self.lattice.supers_first(alloc)
     }
 
     /// The number of the declared type's parameters; 0 for a number that is no declared type.

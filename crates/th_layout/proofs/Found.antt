@@ -17,6 +17,7 @@ use Rattle.th_layout.specs.declared.objects.Object.{Object}
 use Rattle.th_layout.specs.declared.sides.ClassSide.{ClassSide}
 use Rattle.th_layout.specs.Known.{IsObject}
 use Rattle.th_layout.specs.Inside.{laid, Kept}
+use Rattle.th_layout.specs.Held.{IsHeld}
 use Rattle.th_layout.specs.Laid.{IsClassSide, IsTypeSide, CastedAt}
 use Rattle.th_layout.proofs.Judged.{type_many, class_many}
 use Rattle.th_layout.proofs.Seeing.{object_got}
@@ -139,3 +140,12 @@ cast_small a p k u w c d e m h g f =
 pub cast_found : (a : Inside) (p : Program) (k u w : ℕ) (c d : Casts) → laid a ≡ p → Kept (laid a) a → k < length p.types → c ≡ get_or a.type_side.casts.items k d
     → get nat_eq c.words u ≡ Some w → Some (4 * w) ≡ cast_at p k u
 cast_found a p k u w c d e m h g f = ap (option_map (λ v. 4 * v)) (sym f ∙ cast_first a p k u c d e m h g)
+
+-- what the objects of a class hold
+pub held_kept : (a : Inside) (p : Program) (k : ℕ) (o d : Object) → laid a ≡ p → Kept (laid a) a → k < length p.classes → o ≡ get_or a.class_side.objects.items k d
+    → IsHeld p k (record { words = o.words; wheres = o.wheres; fields = o.fields })
+held_kept a p k o d e m h q =
+    let s : IsClassSide p a.class_side = (subst (λ y. Kept y a) e m).class_side in
+    let i : IsObject o (chain_of p k) = subst (λ x. IsObject x (chain_of p k)) (sym q) (object_kept p a.class_side k d s h) in
+    let l : (o.words ≤ 64) × (o.wheres + o.fields ≤ 400) = object_small a p k o d e m h q in
+    record { words = i.words; wheres = i.wheres; fields = i.fields; few_words = l.0; few = omega (arith, l.1); few_fields = omega (arith, l.1) }

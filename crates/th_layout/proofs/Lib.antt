@@ -13,3 +13,6 @@ pub mod Heading
 pub mod Found
 pub mod Keeping
 pub mod Running
+pub mod Viewing
+pub mod Narrowing
+pub mod Shaped

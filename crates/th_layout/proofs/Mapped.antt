@@ -54,7 +54,7 @@ abbrev pub owned_in : (ℕ → Tree) → ℕ → List Spot → Option Place
 owned_in f m [] = None
 owned_in f m (s ∷ ss) = or_else (own_place m (f s.name)) (owned_in f m ss)
 
-owned_append : (f : ℕ → Tree) (m : ℕ) (a b : List Spot) → owned_in f m (a ++ b) ≡ or_else (owned_in f m a) (owned_in f m b)
+pub owned_append : (f : ℕ → Tree) (m : ℕ) (a b : List Spot) → owned_in f m (a ++ b) ≡ or_else (owned_in f m a) (owned_in f m b)
 owned_append f m [] b = refl
 owned_append f m (s ∷ ss) b = ap (or_else (own_place m (f s.name))) (owned_append f m ss b) ∙ again (own_place m (f s.name)) (owned_in f m ss) (owned_in f m b)
   where
@@ -62,20 +62,20 @@ owned_append f m (s ∷ ss) b = ap (or_else (own_place m (f s.name))) (owned_app
     again None y z = refl
     again (Some x) y z = refl
 
-owned_lowered : (f : ℕ → Tree) (m k : ℕ) (l : List Spot) → owned_in f m (lowered k l) ≡ owned_in f m l
+pub owned_lowered : (f : ℕ → Tree) (m k : ℕ) (l : List Spot) → owned_in f m (lowered k l) ≡ owned_in f m l
 owned_lowered f m k [] = refl
 owned_lowered f m k (s ∷ ss) = ap (or_else (own_place m (f s.name))) (owned_lowered f m k ss)
 
 abbrev mutual
-  first_place : Tree → ℕ → Option Place
+  pub first_place : Tree → ℕ → Option Place
   first_place (Node n g own ss) m = or_else (own_place m (Node n g own ss)) (first_place_in ss m)
 
-  first_place_in : Trees → ℕ → Option Place
+  pub first_place_in : Trees → ℕ → Option Place
   first_place_in End m = None
   first_place_in (Also s rest) m = or_else (first_place s m) (first_place_in rest m)
 
 mutual
-  owned_spots : (f : ℕ → Tree) (m : ℕ) (x : Tree) → Rooted f x → owned_in f m (spots x) ≡ first_place x m
+  pub owned_spots : (f : ℕ → Tree) (m : ℕ) (x : Tree) → Rooted f x → owned_in f m (spots x) ≡ first_place x m
   owned_spots f m (Node n g own ss) r = ap (λ y. or_else (own_place m y) (owned_in f m (spots_in First 0 ss))) (sym r.0)
       ∙ ap (or_else (own_place m (Node n g own ss))) (owned_spots_in f m First 0 ss r.1)
 
@@ -87,11 +87,11 @@ mutual
       ∙ ap (or_else (first_place s m)) (owned_spots_in f m (next p (topped s)) (b + room (merged_at p (is_up s)) (span s)) rest r.1)
 
 -- whether there is an answer
-abbrev Answers : Bool → Option Place → Type 0
+abbrev pub Answers : Bool → Option Place → Type 0
 Answers true o = (p : Place) × (o ≡ Some p)
 Answers false o = o ≡ None
 
-answer_or : (a b : Bool) (x y : Option Place) → Answers a x → Answers b y → Answers (cond a true b) (or_else x y)
+pub answer_or : (a b : Bool) (x y : Option Place) → Answers a x → Answers b y → Answers (cond a true b) (or_else x y)
 answer_or true b x y h g = (h.0, ap (λ z. or_else z y) h.1)
 answer_or false true x y h g = (g.0, ap (λ z. or_else z y) h ∙ g.1)
 answer_or false false x y h g = ap (λ z. or_else z y) h ∙ g
@@ -111,7 +111,7 @@ own_answer n g (x ∷ xs) own ss m = by (nat_eq x m) (own_answer n g xs own ss m
     by false h = next_answer (among xs m) (index_of m xs) h
 
 mutual
-  offers_answer : (x : Tree) (m : ℕ) → Answers (offers x m) (first_place x m)
+  pub offers_answer : (x : Tree) (m : ℕ) → Answers (offers x m) (first_place x m)
   offers_answer (Node n g own ss) m = answer_or (among own m) (offers_in ss m) (own_place m (Node n g own ss)) (first_place_in ss m) (own_answer n g own own ss m) (offers_answer_in ss m)
 
   offers_answer_in : (ss : Trees) (m : ℕ) → Answers (offers_in ss m) (first_place_in ss m)
@@ -124,7 +124,7 @@ or_pick true m x y s t h e f = e ∙ h.1 ∙ sym (ap (λ z. or_else z y) h.1)
 or_pick false m x y s t h e f = f ∙ sym (ap (λ z. or_else z y) h)
 
 mutual
-  home_first : (x : Tree) (m : ℕ) → method_place x m ≡ first_place x m
+  pub home_first : (x : Tree) (m : ℕ) → method_place x m ≡ first_place x m
   home_first (Node n g own ss) m = or_pick (among own m) m (own_place m (Node n g own ss)) (first_place_in ss m) (Some (Node n g own ss)) (home_in ss m) (own_answer n g own own ss m) refl (home_first_in ss m)
 
   home_first_in : (ss : Trees) (m : ℕ) → option_and_then (own_place m) (home_in ss m) ≡ first_place_in ss m
@@ -140,7 +140,7 @@ pub rooted : (rows : List TypeRow) → Ordered rows → (h n : ℕ) → n ≤ h 
 rooted rows o zero n l = (same (graph_of rows) (λ k. k) o zero n n l (le_refl n), tt)
 rooted rows o (suc h) n l = (same (graph_of rows) (λ k. k) o (suc h) n n l (le_refl n), rooted_in rows h n (supers_in (slice_get rows n)) (o n) l (λ s a. rooted rows o h s a))
 
-offset_owned : (rows : List TypeRow) (l : List Spot) (q : ℕ) → offset_in rows l q ≡ option_map offset (owned_in (tree_of rows) q l)
+pub offset_owned : (rows : List TypeRow) (l : List Spot) (q : ℕ) → offset_in rows l q ≡ option_map offset (owned_in (tree_of rows) q l)
 offset_owned rows [] q = refl
 offset_owned rows (s ∷ ss) q = ap (or_else (option_map offset (own_place q (tree_of rows s.name)))) (offset_owned rows ss q) ∙ over (own_place q (tree_of rows s.name)) (owned_in (tree_of rows) q ss)
   where

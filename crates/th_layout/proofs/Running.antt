@@ -90,7 +90,7 @@ pub seen_end : (p : Program) (c w i : ℕ) (l all : List Spot) (o : ℤ) (x firs
     → or_else x (first_at (seen_slots p c w (drop i l)) o) ≡ or_else first (first_at (seen_slots p c w l) o) → x ≡ or_else first (first_at (seen_slots p c w all) o)
 seen_end p c w i l all o x first e h g = sym (none_after x) ∙ ap (λ v. or_else x (first_at (seen_slots p c w v) o)) (sym (drop_all l i h)) ∙ g ∙ ap (λ v. or_else first (first_at (seen_slots p c w v) o)) e
 
-viewed_got : (l : List Spots) (n : ℕ) (d : Spots) (chain : List Link) → n < length l → ViewedAt (slice_get l n) chain → (get_or l n d).list.items ≡ object_spots chain
+pub viewed_got : (l : List Spots) (n : ℕ) (d : Spots) (chain : List Link) → n < length l → ViewedAt (slice_get l n) chain → (get_or l n d).list.items ≡ object_spots chain
 viewed_got [] n d chain h g = absurd (omega arith)
 viewed_got (x ∷ xs) zero d chain h g = g
 viewed_got (x ∷ xs) (suc n) d chain h g = viewed_got xs n d chain (omega arith) g

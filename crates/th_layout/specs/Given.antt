@@ -1,5 +1,5 @@
 -- What methods give and which classes have their bodies, for each type and class.
-use Rattle.std.specs.Prelude.{◌≡◌, ℕ, ◌<◌, List, [], ◌∷◌, ◌++◌, length, nat_eq, Option, Some, None, slice_get}
+use Rattle.std.specs.Prelude.{◌≡◌, ℕ, ◌<◌, List, [], ◌∷◌, ◌++◌, length, nat_eq, Bool, true, false, cond, Option, Some, None, slice_get}
 use Rattle.std.specs.HashMap.{get}
 use Rattle.th_layout.specs.declared.heads_of.Heads.{Heads}
 use Rattle.th_layout.specs.declared.heads_of.Bodies.{Bodies}
@@ -7,6 +7,7 @@ use Rattle.th_views.specs.declared.ClassRow.{ClassRow}
 use Rattle.th_views.specs.declared.Gives.{Gives}
 use Rattle.th_views.specs.declared.TypeRow.{TypeRow}
 use Rattle.th_views.specs.Chain.{Link, lookup}
+use Rattle.th_views.specs.Home.{offers}
 use Rattle.th_views.specs.Lookups.{given_in, type_gives, class_gives, class_arrives}
 use Rattle.th_views.specs.Rows.{Program, chain_of}
 
@@ -47,3 +48,8 @@ BodiedAt (Some h) chain = (q : ℕ) → get nat_eq h.of q ≡ lookup chain q
 -- the classes whose bodies the walks of the first classes find
 abbrev pub Bodied : Program → List Heads → Type 0
 Bodied p done = (k : ℕ) → k < length done → BodiedAt (slice_get done k) (chain_of p k)
+
+-- whether the type of a class of the chain has the method
+abbrev pub types_offer : List Link → ℕ → Bool
+types_offer [] m = false
+types_offer (c ∷ rest) m = cond (offers c.of m) true (types_offer rest m)

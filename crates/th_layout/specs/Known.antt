@@ -4,7 +4,7 @@ use Rattle.std.specs.HashMap.{get}
 use Rattle.th_layout.specs.declared.maps.Casts.{Casts}
 use Rattle.th_layout.specs.declared.maps.Offsets.{Offsets}
 use Rattle.th_layout.specs.declared.objects.Object.{Object}
-use Rattle.th_views.specs.Lookups.{offset, method_place, hidden_place}
+use Rattle.th_views.specs.Lookups.{offset, method_place, hidden_place, IsView}
 use Rattle.th_views.specs.Objects.{object_spots}
 use Rattle.th_views.specs.declared.TypeRow.{TypeRow}
 use Rattle.th_layout.specs.declared.heads.Facts.{Facts}
@@ -17,6 +17,8 @@ use Rattle.th_views.specs.declared.Spot.{Spot}
 use Rattle.th_views.specs.declared.ClassRow.{ClassRow}
 use Rattle.th_layout.specs.declared.counts.Tally.{Tally}
 use Rattle.th_layout.specs.Counts.{IsTally}
+use Rattle.th_layout.specs.Maps.{offset_in}
+use Rattle.th_layout.specs.declared.seen_words.WordTypes.{WordTypes}
 use Rattle.th_views.specs.Sums.{sum, plain_depth, greatest}
 
 pub record IsFacts (f : Facts) (x : Tree) : Type 0 where
@@ -155,3 +157,40 @@ HiddenAtsOf (Some o) p c = (q : ℕ) → get nat_eq o.bytes q ≡ option_map off
 -- the offsets of the hidden methods of the first classes
 abbrev pub HiddenAts : Program → List Offsets → Type 0
 HiddenAts p done = (k : ℕ) → k < length done → HiddenAtsOf (slice_get done k) p k
+
+abbrev pub OwnedAt : Option Offsets → Program → ℕ → Type 0
+OwnedAt None p c = ⊥
+OwnedAt (Some o) p c = (q : ℕ) → get nat_eq o.bytes q ≡ offset_in p.types (object_spots (chain_of p c)) q
+
+-- the own methods of the types that the objects of the first classes see
+abbrev pub Owned : Program → List Offsets → Type 0
+Owned p done = (k : ℕ) → k < length done → OwnedAt (slice_get done k) p k
+
+abbrev pub number_in : Option TypeRow → ℕ
+number_in None = 0
+number_in (Some r) = r.name
+
+-- the number of the type at a place of the list
+abbrev pub number_at : List TypeRow → ℕ → ℕ
+number_at types t = number_in (slice_get types t)
+
+-- the numbers of the types seen at a word, in the order in which they are seen
+abbrev pub numbers_at : List TypeRow → List Spot → ℕ → List ℕ
+numbers_at types [] w = []
+numbers_at types (s ∷ ss) w = cond (nat_eq s.word w) (number_at types s.name ∷ numbers_at types ss w) (numbers_at types ss w)
+
+abbrev pub ViewGot : List TypeRow → List Spot → ℕ → Option (List ℕ) → Type 0
+ViewGot types seen w None = ⊥
+ViewGot types seen w (Some v) = IsView types seen w v
+
+-- the types seen at the first words
+abbrev pub EachView : List TypeRow → List Spot → List (List ℕ) → Type 0
+EachView types seen views = (w : ℕ) → w < length views → ViewGot types seen w (slice_get views w)
+
+abbrev pub WordTypesAt : Option WordTypes → Program → ℕ → Type 0
+WordTypesAt None p c = ⊥
+WordTypesAt (Some v) p c = (length v.at.items ≡ words (chain_of p c)) × EachView p.types (object_spots (chain_of p c)) v.at.items
+
+-- the types seen at each header word of the objects of the first classes
+abbrev pub WordsViewed : Program → List WordTypes → Type 0
+WordsViewed p done = (k : ℕ) → k < length done → WordTypesAt (slice_get done k) p k

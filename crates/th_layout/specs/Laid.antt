@@ -6,7 +6,7 @@ use Rattle.th_layout.specs.declared.sides.TypeSide.{TypeSide}
 use Rattle.th_layout.specs.declared.sides.ClassSide.{ClassSide}
 use Rattle.th_layout.specs.declared.sides.Places.{Places}
 use Rattle.th_layout.specs.declared.sides.Sums.{Sums}
-use Rattle.th_layout.specs.Known.{Done, Summed, Spotted, Tallied, Homed, Formed, HiddenAts, Viewed, Few, FewWords, FewFields, Shallow, Placed, Typed, HiddenNames}
+use Rattle.th_layout.specs.Known.{Done, Summed, Spotted, Tallied, Homed, Formed, HiddenAts, Viewed, Few, FewWords, FewFields, Shallow, Placed, Typed, HiddenNames, Owned, WordsViewed}
 use Rattle.th_layout.specs.Given.{GivenTypes, GivenClasses, Arriving, Bodied}
 use Rattle.th_views.specs.Objects.{raised}
 use Rattle.th_views.specs.declared.TypeRow.{TypeRow}
@@ -56,6 +56,8 @@ pub record IsClassSide (p : Program) (a : ClassSide) : Type 0 where
   pub typed : Typed p
   pub names : (length a.names.items ≡ length p.classes) × HiddenNames p a.names.items
   pub raised : a.raised ≡ raised p.types
+  pub owned : (length a.owned.items ≡ length p.classes) × Owned p a.owned.items
+  pub views : (length a.views.items ≡ length p.classes) × WordsViewed p a.views.items
   pub gives : (length a.gives.items ≡ length p.classes) × GivenClasses p.classes a.gives.items
   pub arrives : (length a.arrives.items ≡ length p.classes) × Arriving p.classes a.arrives.items
   pub bodies : (length a.bodies.items ≡ length p.classes) × Bodied p a.bodies.items

@@ -7,3 +7,4 @@ pub mod Given
 pub mod Laid
 pub mod Runs
 pub mod Inside
+pub mod Held

@@ -1,20 +1,39 @@
 //! The layout of a program, and its look-ups.
 ghost use Rattle.std.specs.Option.{ForSome};
-ghost use Rattle.std.specs.Prelude.{◌≡◌, ◌≤◌, ◌<◌, ◌^◌, length, IfOk, MatchResult};
+ghost use Rattle.std.specs.Prelude.{None, Some, is_some};
+ghost use Rattle.std.specs.Prelude.{◌≡◌, ◌≤◌, ◌<◌, ◌^◌, length, IfOk, MatchOption, MatchResult};
+ghost use Rattle.th_layout.specs.Held.{HeldAt};
+ghost use Rattle.th_layout.specs.Given.{types_offer};
 ghost use Rattle.th_layout.specs.Known.{Typed};
-ghost use Rattle.th_layout.specs.Refusals.{Accepted, RefusedBy};
+ghost use Rattle.th_layout.specs.Refusals.{Accepted, RefusedBy, RefusedFor};
+ghost use Rattle.th_shape.specs.Placed.{IsProgramOf};
+ghost use Rattle.th_type.specs.Closure.{Distinct};
+ghost use Rattle.th_views.specs.Shapes.{HasLines, IsTyped, names_of, shapes_of};
 ghost use Rattle.th_layout.specs.Runs.{IsTable, IsTableAnswer};
-ghost use Rattle.th_views.specs.Lookups.{cast_at, cast_of, class_place, field_of, group_at, size_of, slot_of, sum_of, type_place, words_of};
+ghost use Rattle.th_views.specs.Lookups.{cast_at, cast_of, class_place, field_of, group_at, knows, narrowed_at, narrowed_of, size_of, slot_of, sum_of, to_class, to_type, type_place, words_of, NoWord, ViewAt, where_true};
+ghost use Rattle.th_views.specs.Chain.{among, hidden, lookup};
+ghost use Rattle.th_views.specs.Home.{offers};
+ghost use Rattle.th_views.specs.Rows.{chain_of, tree_of};
 ghost use Rattle.th_views.specs.Objects.{Sound};
 
 use crate::limits::LayoutError;
 use crate::sides::{
     ClassSide, Places, Sums, TypeSide, all_places, class_side, sums_within, type_side,
 };
-use crate::tables::table_at;
+use crate::tables::{bridge_of, class_bridge, table_at};
 use std::alloc::{AllocError, Global};
 use std::marker::Model;
-use th_views::{ClassRow, Slot, TypeRow};
+use th_hier::Hierarchy;
+use th_shape::rows_of;
+use th_views::{ClassRow, ClassShape, Slot, TypeRow};
+
+/// What a class's objects hold: their header words, and their where-words and fields with those that the class inherits.
+#[derive(Clone, Copy)]
+pub struct Held {
+    pub words: u32,
+    pub wheres: u32,
+    pub fields: u32,
+}
 
 /// The layout of a program. A contract sees the program's types and classes.
 #[derive(Drop)]
@@ -40,6 +59,25 @@ impl Model for Layout {
 }
 
 impl Layout {
+    /// The layout of the types of a hierarchy and of these classes, or the first limit above which a count of theirs is, and the
+    /// least number of a type or class with such a count. More types or classes than 2^32 - 1 are want of memory.
+    pub fn of(
+        alloc: Global,
+        hierarchy: &Hierarchy,
+        classes: &[ClassShape],
+        limit: u32,
+    ) -> Result<Layout, LayoutError>
+        requires limit { limit ≤ 64 }
+        requires lines { HasLines (shapes_of classes.now) }
+        requires names { Distinct (names_of (shapes_of classes.now)) }
+        requires typed { IsTyped hierarchy.now.types (shapes_of classes.now) }
+        ensures { MatchResult result (λ l. IsProgramOf hierarchy.now.types (shapes_of classes.now) l × Accepted limit l)
+            (λ e. RefusedFor limit hierarchy.now.types (shapes_of classes.now) e) }
+    {
+        let rows = rows_of(alloc, hierarchy, classes)?;
+        Layout::of_rows(alloc, rows.types, rows.classes, limit)
+    }
+
     /// The layout of these types and classes. Each type's supertypes stand before it, and each
     /// inherited class before its heirs.
     pub fn of_rows(
@@ -146,6 +184,29 @@ impl Layout {
         Some(4 * (object.words + (object.wheres + object.fields)))
     }
 
+    /// The header words, where-words and fields of a class's objects, with those that it inherits; None exactly where the
+    /// number names no class.
+    pub fn held(&self, class: u32) -> Option<Held>
+        ensures { MatchOption result (class_place self.now class ≡ None) (λ h. HeldAt self.now (class_place self.now class) h) }
+    {
+        match self.class_at(class) {
+            Some(place) => Some(self.held_at(place)),
+            None => None,
+        }
+    }
+
+    fn held_at(&self, place: u32) -> Held
+        requires { place < length self.now.classes }
+        ensures { HeldAt self.now (Some place) result }
+    {
+        let object = self.class_side.objects[place as usize];
+        Held {
+            words: object.words,
+            wheres: object.wheres,
+            fields: object.fields,
+        }
+    }
+
     /// The offset in bytes above the anchor of a class's own where-word or field, where-words first;
     /// None exactly where the number names no class, or the class has none at this index.
     pub fn field(&self, class: u32, index: u32) -> Option<u32>
@@ -191,6 +252,147 @@ impl Layout {
             return Some(4 * self.class_side.objects[place as usize].start);
         }
         None
+    }
+
+    /// The numbers of the types seen at a header word of a class's objects, counted from the anchor down, each once and
+    /// ascending; None exactly where the number names no class, or its objects have no such header word.
+    pub fn view(&self, class: u32, word: u32) -> Option<&[u32]>
+        ensures { MatchOption result (NoWord self.now (class_place self.now class) word) (λ v. ViewAt self.now (class_place self.now class) word v.now) }
+    {
+        match self.class_at(class) {
+            Some(place) => self.view_of(place, word),
+            None => None,
+        }
+    }
+
+    fn view_of(&self, place: u32, word: u32) -> Option<&[u32]>
+        requires { place < length self.now.classes }
+        ensures { MatchOption result (NoWord self.now (Some place) word) (λ v. ViewAt self.now (Some place) word v.now) }
+    {
+        match self.class_side.views[place as usize].at.get(word as usize) {
+            Some(view) => Some(view.as_slice()),
+            None => None,
+        }
+    }
+
+    /// The distance in bytes by which the result of the body that a class's walk finds for a method is lowered for readers of
+    /// the type or class `to`; None exactly where a number names no such thing, the walk finds no body, or `to` has no such
+    /// method.
+    pub fn narrowed(&self, class: u32, method: u32, to: u32) -> Option<u32>
+        ensures { result ≡ narrowed_of self.now class method to }
+    {
+        match self.class_at(class) {
+            Some(place) => self.narrowed_from(place, method, to),
+            None => None,
+        }
+    }
+
+    fn narrowed_from(&self, place: u32, method: u32, to: u32) -> Option<u32>
+        requires { place < length self.now.classes }
+        ensures { result ≡ narrowed_at self.now place method to }
+    {
+        if !self.has_body(place, method) {
+            return None;
+        }
+        match (self.type_at(to), self.class_at(to)) {
+            (Some(to), _) => self.narrowed_to_type(place, method, to),
+            (None, Some(to)) => self.narrowed_to_class(place, method, to),
+            (None, None) => None,
+        }
+    }
+
+    /// Whether the walk of a class finds a body for a method.
+    fn has_body(&self, place: u32, method: u32) -> bool
+        requires { place < length self.now.classes }
+        ensures { result ≡ is_some (lookup (chain_of self.now place) method) }
+    {
+        match self.class_side.bodies[place as usize].of.get(&method) {
+            Some(_) => true,
+            None => false,
+        }
+    }
+
+    /// Whether a type has a method.
+    fn offers(&self, place: u32, method: u32) -> bool
+        requires { place < length self.now.types }
+        ensures { result ≡ offers (tree_of self.now.types place) method }
+    {
+        match self.type_side.offsets[place as usize].bytes.get(&method) {
+            Some(_) => true,
+            None => false,
+        }
+    }
+
+    /// Whether the type of a class, or of one that it inherits, has a method.
+    fn types_offer(&self, place: u32, method: u32) -> bool
+        requires { place < length self.now.classes }
+        ensures { result ≡ types_offer (chain_of self.now place) method }
+    {
+        match self.class_side.owned[place as usize].bytes.get(&method) {
+            Some(_) => true,
+            None => false,
+        }
+    }
+
+    /// Whether a class has a hidden method.
+    fn hides(&self, place: u32, method: u32) -> bool
+        requires { place < length self.now.classes }
+        ensures { result ≡ among (hidden (chain_of self.now place)) method }
+    {
+        match self.class_side.hidden[place as usize].bytes.get(&method) {
+            Some(_) => true,
+            None => false,
+        }
+    }
+
+    /// Whether a class has a method.
+    fn knows(&self, place: u32, method: u32) -> bool
+        requires { place < length self.now.classes }
+        ensures { result ≡ knows (chain_of self.now place) method }
+    {
+        if self.types_offer(place, method) {
+            true
+        } else {
+            self.hides(place, method)
+        }
+    }
+
+    fn narrowed_to_type(&self, place: u32, method: u32, to: u32) -> Option<u32>
+        requires place { place < length self.now.classes }
+        requires to { to < length self.now.types }
+        ensures { result ≡ where_true (offers (tree_of self.now.types to) method) (to_type self.now place method to) }
+    {
+        if !self.offers(to, method) {
+            return None;
+        }
+        Some(bridge_of(
+            &self.types,
+            &self.classes,
+            &self.type_side,
+            &self.class_side,
+            place as usize,
+            to as usize,
+            method,
+        ))
+    }
+
+    fn narrowed_to_class(&self, place: u32, method: u32, to: u32) -> Option<u32>
+        requires place { place < length self.now.classes }
+        requires to { to < length self.now.classes }
+        ensures { result ≡ where_true (knows (chain_of self.now to) method) (to_class self.now place method to) }
+    {
+        if !self.knows(to, method) {
+            return None;
+        }
+        Some(class_bridge(
+            &self.types,
+            &self.classes,
+            &self.type_side,
+            &self.class_side,
+            place as usize,
+            to as usize,
+            method,
+        ))
     }
 
     /// The slots of the table at a header word of a class, from the lowest offset up; None exactly where

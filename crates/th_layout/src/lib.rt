@@ -8,7 +8,9 @@ mod layout;
 mod limits;
 mod maps;
 mod objects;
+mod owned;
 mod seen;
+mod seen_words;
 mod sides;
 mod slots;
 mod tables;
@@ -16,7 +18,7 @@ mod views;
 
 pub use counts::Tally;
 pub use heads::{Facts, Walk};
-pub use layout::Layout;
+pub use layout::{Held, Layout};
 pub use limits::LayoutError;
 pub use objects::Object;
 pub use views::Spots;

@@ -14,7 +14,9 @@ use crate::heads_of::{Heads, all_arrivals, all_bodies, all_class_heads, all_type
 use crate::limits::{LayoutError, class_names, judge, type_names};
 use crate::maps::{Casts, Offsets, all_casts, places};
 use crate::objects::{Object, all_hidden, all_objects};
+use crate::owned::all_owned;
 use crate::seen::{all_hidden_offsets, all_seen};
+use crate::seen_words::{WordTypes, all_views};
 use crate::slots::{all_depths, all_offsets, raised_of};
 use crate::views::{Spots, all_spots};
 use std::alloc::{AllocError, Global};
@@ -53,6 +55,8 @@ pub struct ClassSide {
     pub objects: Vec<Object>,
     pub hidden: Vec<Offsets>,
     pub seen: Vec<Spots>,
+    pub owned: Vec<Offsets>,
+    pub views: Vec<WordTypes>,
     pub names: Vec<NumberList>,
     /// The greatest number of own methods of an upward type.
     pub raised: u32,
@@ -148,6 +152,7 @@ pub fn class_side(
     classes: &[ClassRow],
     side: &TypeSide,
 ) -> Result<ClassSide, AllocError>
+    requires ordered { Ordered types.now }
     requires inherited { Inherited classes.now }
     requires typed { Typed (record { types = types.now; classes = classes.now }) }
     requires side { IsTypeSide types.now side.now }
@@ -163,6 +168,8 @@ pub fn class_side(
     let raised = raised_of(types);
     let hidden = all_hidden_offsets(alloc, types, classes, &names, raised)?;
     let seen = all_seen(alloc, types, classes, &objects, &side.spots)?;
+    let owned = all_owned(alloc, types, classes, &seen, &side.facts, &side.depths)?;
+    let views = all_views(alloc, types, classes, &objects, &seen)?;
     let gives = all_class_heads(alloc, classes)?;
     let arrives = all_arrivals(alloc, classes)?;
     let bodies = all_bodies(alloc, types, classes)?;
@@ -170,6 +177,8 @@ pub fn class_side(
         objects,
         hidden,
         seen,
+        owned,
+        views,
         names,
         raised,
         gives,

@@ -70,7 +70,7 @@ fn add_own(
 }
 
 /// The offset of each method of a type, in the table of its home: the first type seen that owns it.
-fn offsets_of(
+pub fn offsets_of(
     alloc: Global,
     rows: &[TypeRow],
     seen: &[Spot],

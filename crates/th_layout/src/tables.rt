@@ -4,13 +4,13 @@ ghost use Rattle.std.specs.HashMap.{get as hash_get};
 ghost use Rattle.std.specs.Ordering.{int_cmp};
 ghost use Rattle.std.specs.Prelude.{◌≡◌, ◌≤◌, ◌<◌, ◌+◌, ℤ, length, IfOk, OnOk, [], ◌∷◌, slice_get, ◌*◌, ℕ, cond, nat_eq, option_map, unwrap_or};
 ghost use Rattle.std.specs.Prelude.{map as map_list};
-ghost use Rattle.th_layout.specs.Given.{Arriving, Bodied, GivenTypes};
+ghost use Rattle.th_layout.specs.Given.{Arriving, Bodied, GivenClasses, GivenTypes};
 ghost use Rattle.th_layout.specs.Known.{Few};
 ghost use Rattle.th_layout.specs.Laid.{Casted, IsClassSide, IsTypeSide};
 ghost use Rattle.th_layout.specs.Maps.{or_else};
 ghost use Rattle.th_layout.specs.Runs.{IsTable, own_run, spot_slots};
 ghost use Rattle.th_views.specs.Contents.{body_of, first_at, hidden_slots, own_slots, seen_slots, slot_at};
-ghost use Rattle.th_views.specs.Lookups.{between, given_in, class_arrives, lowering, to_type, type_gives};
+ghost use Rattle.th_views.specs.Lookups.{between, given_in, class_arrives, class_gives, lowering, to_class, to_type, type_gives};
 ghost use Rattle.th_views.specs.Objects.{object_spots};
 ghost use Rattle.th_views.specs.Rows.{chain_of, tree_of, Ordered};
 ghost use Rattle.th_views.specs.Tree.{own_of};
@@ -105,8 +105,38 @@ fn body(types: &[TypeRow], classes: &[ClassRow], bodies: &[Heads], class: usize,
     }
 }
 
+/// The type that a class says that a method gives.
+fn class_given(classes: &[ClassRow], gives: &[Heads], place: usize, method: u32) -> Option<u32>
+    requires within { place < length gives.now }
+    requires gives { GivenClasses classes.now gives.now }
+    ensures { result ≡ given_in (class_gives (slice_get classes.now place)) method }
+{
+    gives[place].of.get(&method).copied()
+}
+
+/// The distance by which a bridge before a class's body lowers the result for a class's callers.
+pub fn class_bridge(
+    types: &[TypeRow],
+    classes: &[ClassRow],
+    type_side: &TypeSide,
+    class_side: &ClassSide,
+    class: usize,
+    to: usize,
+    method: u32,
+) -> u32
+    requires within { class < length classes.now }
+    requires to { to < length classes.now }
+    requires types { IsTypeSide types.now type_side.now }
+    requires classes { IsClassSide (record { types = types.now; classes = classes.now }) class_side.now }
+    ensures { result ≡ to_class (record { types = types.now; classes = classes.now }) class method to }
+{
+    let from = arrival(classes, &class_side.arrives, class, method);
+    let to = class_given(classes, &class_side.gives, to, method);
+    between_of(types, classes, &type_side.casts, from, to)
+}
+
 /// The distance by which a bridge before a class's body lowers the result for a type's readers.
-fn bridge_of(
+pub fn bridge_of(
     types: &[TypeRow],
     classes: &[ClassRow],
     type_side: &TypeSide,

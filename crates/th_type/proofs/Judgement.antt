@@ -1,5 +1,5 @@
 -- The judgement as a whole.
-use Rattle.std.proofs.Common.{◌≡◌, ◌∙◌, ℕ, List, map, Option, Some, None, ap, sym, subst, inl, inr}
+use Rattle.std.proofs.Common.{◌≡◌, ◌∙◌, ℕ, List, map, Option, Some, None, ap, sym, subst, refl, inl, inr}
 use Rattle.std.specs.Global.{Vec}
 use Rattle.std.specs.Ordering.{nat_cmp}
 use Rattle.std.specs.List.Sorted.{IsSorted, IsPermutation}
@@ -22,7 +22,11 @@ use Rattle.th_type.specs.Rows.{row_of}
 use Rattle.th_type.proofs.Ascent.{ascends, untangled}
 use Rattle.th_type.proofs.Resolved.{well_formed_fits}
 use Rattle.th_type.proofs.Inherit.{methods_least}
-use Rattle.th_type.proofs.Filling.{written_same}
+use Rattle.th_type.proofs.Filling.{written_same, names_to}
+use Rattle.th_type.proofs.Ranks.{rank_less}
+use Rattle.th_type.specs.Types.{TypeExprs, named_ty}
+use Rattle.th_type.specs.Declarations.{supers_of}
+use Rattle.th_type.specs.Lists.{IsIn}
 
 pub named_first : (ds : List Declaration) (old new : Option Failure) (es : List (ℕ × Above)) (f : Failure) → Judging ds ds old new es → new ≡ Some f → IsNamed ds old f
 named_first ds old new es f j e = inl (subst (λ o. IsLeastOf (FailsFirst ds old) o) e j.least)
@@ -38,11 +42,19 @@ pub none_fails : (ds : List Declaration) → WellFormed ds → (old new least : 
 none_fails ds w old new least es fs j e r l h =
     (subst (λ o. IsLeastOf (FailsFirst ds old) o) e j.least, subst (λ o. IsLeastOf (MethodsFail ds) o) h (methods_least ds w (up_of es) (ascended_of ds old new es j e) fs r least l))
 
+super_named : (ds : List Declaration) (up : ℕ → List TypeExpr) → Ascended ds up → (n s : ℕ) (args : TypeExprs) → IsIn (named_ty s args) (supers_of (declared_types ds) n) → IsIn s (map (λ d. d.name) ds)
+super_named ds up a n s args i =
+    let h = (a.climbed n).heads (named_ty s args) ((a.climbed n).all (named_ty s args) (named_ty s args, i, (0, refl))) in
+    let e : h.0 ≡ s = cc in
+    names_to ds s (subst (λ m. IsIn m (map (λ d. d.name) (declared_types ds))) e h.3)
+
 pub lattice_right : (ds : List Declaration) → WellFormed ds → (old new : Option Failure) (es : List (ℕ × Above)) (fs : List (ℕ × Vec Sig)) (D : List DeclaredType) (heads : List ℕ) → Judging ds ds old new es → new ≡ None → MethodsRight (declared_types ds) (up_of es) fs → D ≡ declared_types ds → IsSorted nat_cmp heads → IsPermutation (map (λ d. d.name) (declared_types ds)) heads → LatticeRight D heads (up_of es) fs
 lattice_right ds w old new es fs D heads j e r d s p =
     subst (λ D. LatticeRight D heads (up_of es) fs) (sym d) (record {
       fits = well_formed_fits ds w;
       climbed = (ascended_of ds old new es j e).climbed;
+      falls = λ n s args i. let a = ascended_of ds old new es j e in
+          rank_less ds w (up_of es) a n s args (super_named ds (up_of es) a n s args i) i;
       methods = r;
       sorted = s;
       permutation = p;

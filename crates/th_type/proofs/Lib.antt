@@ -20,3 +20,4 @@ pub mod Testing
 pub mod Inherit
 pub mod RowLists
 pub mod Judgement
+pub mod Ordered

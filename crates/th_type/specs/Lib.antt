@@ -19,3 +19,4 @@ pub mod Rows
 pub mod Fitting
 pub mod LatticeRight
 pub mod Refusals
+pub mod Ordering

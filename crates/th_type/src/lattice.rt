@@ -1,7 +1,8 @@
 //! The lattice of declared types. docs/LANGUAGE.md, "Subtypes" and "Methods of a type", states what it answers.
-ghost use Rattle.std.specs.Prelude.{◌≡◌, ◌↔◌, ℕ, map, option_map, IfOk, IsTrue, MatchResult};
+ghost use Rattle.std.specs.Prelude.{◌≡◌, ◌↔◌, ℕ, length, map, option_map, IfOk, IsTrue, MatchResult};
 ghost use Rattle.std.specs.Ordering.{nat_cmp};
-ghost use Rattle.std.specs.List.Sorted.{IsSorted, IsPermutation};
+ghost use Rattle.std.specs.List.Sorted.{IsSorted, IsNonDecreasingBy, IsPermutation};
+ghost use Rattle.th_type.specs.Tables.{up_of};
 ghost use Rattle.th_type.specs.Types.{ty_of};
 ghost use Rattle.th_type.specs.Signatures.{sig_of, find_sig};
 ghost use Rattle.th_type.specs.Declarations.{decls_of, declared_types, supers_of, sigs_of, params_of};
@@ -10,7 +11,9 @@ ghost use Rattle.th_type.specs.Methods.{method_of};
 ghost use Rattle.th_type.specs.Rules.{WellFormed, IsNamed, NoneFails};
 ghost use Rattle.th_type.specs.MethodTables.{Rising};
 ghost use Rattle.th_type.specs.Refusals.{RefusedBy};
+ghost use Rattle.th_type.specs.Ordering.{SupersFirst};
 
+use crate::above::Ancestors;
 use crate::defs::Defs;
 use crate::judge::judge_supertypes;
 use crate::known::Tables;
@@ -95,6 +98,16 @@ fn judged(
     }
 }
 
+/// The numbers in ascending order of how many supertypes the declared types reach.
+fn by_rank(alloc: Global, heads: &[u32], ancestors: &Ancestors) -> Result<Vec<u32>, AllocError>
+    ensures sorted { IfOk result (λ order. IsNonDecreasingBy (λ n. length (up_of ancestors.now.map.entries n)) order.items) }
+    ensures same { IfOk result (λ order. IsPermutation heads.now order.items) }
+{
+    let mut order = Vec::from_slice(alloc, heads)?;
+    order.sort_unstable_by_key(|name| ancestors.rank(*name));
+    Ok(order)
+}
+
 impl Lattice {
     /// The lattice of these declared types, where no failure was found before and none of the rules on supertypes and on
     /// inherited methods fails. docs/LANGUAGE.md, "Which failure is named", states which failure is named.
@@ -142,6 +155,15 @@ impl Lattice {
         ensures all { IsPermutation (map (λ d. d.name) self.now) result.now }
     {
         &self.heads
+    }
+
+    /// The numbers of all declared types, each after its declared supertypes.
+    pub fn supers_first(&self, alloc: Global) -> Result<Vec<u32>, AllocError>
+        ensures order { IfOk result (λ order. SupersFirst self.now order.items) }
+        ensures all { IfOk result (λ order. IsPermutation (map (λ d. d.name) self.now) order.items) }
+    {
+        let order = by_rank(alloc, &self.heads, &self.tables.ancestors)?;
+        Ok(order)
     }
 
     /// The number of the declared type's parameters; 0 for a number that is no declared type.

@@ -291,6 +291,22 @@ impl TyList {
 }
 
 impl Ty {
+    /// The type with the k-th argument in place of each parameter `k`; a parameter without one stays.
+    pub fn apply(&self, alloc: Global, args: &TyList) -> Result<Ty, AllocError>
+        ensures { IfOk result (λ t. ty_of t ≡ subst_ty (list_of (tys_of args.now)) (ty_of self.now)) }
+    {
+        self.with_args(alloc, Args::List(args))
+    }
+
+    /// Whether the type, with the k-th argument in place of each parameter `k`, is the other; a parameter without one stays.
+    pub fn is_applied(&self, args: &TyList, other: &Ty) -> bool
+        ensures { result ≡ same_ty (subst_ty (list_of (tys_of args.now)) (ty_of self.now)) (ty_of other.now) }
+    {
+        self.is_with(Args::List(args), other)
+    }
+}
+
+impl Ty {
     /// Whether the type, with arguments in place of parameters, is the other.
     #[cycle(matching)]
     pub(crate) fn is_with(&self, args: Args<'_>, other: &Ty) -> bool

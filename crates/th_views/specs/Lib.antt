@@ -11,3 +11,4 @@ pub mod Contents
 pub mod Laws
 pub mod Terms
 pub mod Bridges
+pub mod Shapes

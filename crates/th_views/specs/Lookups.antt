@@ -1,14 +1,17 @@
 -- What is asked of a layout, by the numbers of types, classes and methods. Distances and offsets are in bytes.
-use Rattle.std.specs.Prelude.{ℕ, ℤ, pos, negsuc, ◌+◌, ◌*◌, List, [], ◌∷◌, Bool, true, false, unwrap_or, slice_get, nat_eq, nat_lt, cond, Option, Some, None, option_map, option_and_then}
+use Rattle.std.specs.Prelude.{◌≡◌, ℕ, ℤ, pos, negsuc, ◌+◌, ◌*◌, ◌<◌, ◌≤◌, List, [], ◌∷◌, Bool, true, false, unwrap_or, slice_get, nat_eq, nat_lt, cond, Option, Some, None, option_map, option_and_then}
+use Rattle.std.specs.List.{Contains}
+use Rattle.std.specs.List.Sorted.{IsStrictlyIncreasing}
+use Rattle.th_views.specs.declared.Spot.{Spot}
 use Rattle.th_views.specs.declared.TypeRow.{TypeRow}
 use Rattle.th_views.specs.declared.Gives.{Gives}
 use Rattle.th_views.specs.declared.ClassRow.{ClassRow}
 use Rattle.th_views.specs.Tree.{Tree, own_of, span, Place, Below, Above, place}
-use Rattle.th_views.specs.Listed.{spots, first_of}
+use Rattle.th_views.specs.Listed.{spots, first_of, HasSpot}
 use Rattle.th_views.specs.Home.{home, offers}
 use Rattle.th_views.specs.Chain.{Link, among, lookup, start, words, hidden, field_word, size}
 use Rattle.th_views.specs.Sums.{sum, sum_words}
-use Rattle.th_views.specs.Objects.{raised}
+use Rattle.th_views.specs.Objects.{raised, object_spots}
 use Rattle.th_views.specs.Rows.{Program, tree_of, chain_of}
 
 abbrev pub type_numbers : List TypeRow → List ℕ
@@ -90,6 +93,30 @@ field_of p n i = option_and_then (λ c. field_at p c i) (class_place p n)
 -- the bytes of a class's objects
 abbrev pub size_of : Program → ℕ → Option ℕ
 size_of p n = option_map (λ c. size (chain_of p c)) (class_place p n)
+
+-- the number of the type at a place
+abbrev pub type_number : List TypeRow → ℕ → Option ℕ
+type_number types t = option_map (λ r. r.name) (slice_get types t)
+
+-- the type with the number n is one of those seen at the word w
+abbrev pub SeesAt : List TypeRow → List Spot → ℕ → ℕ → Type 0
+SeesAt types seen w n = (t : ℕ) × HasSpot seen t w × (type_number types t ≡ Some n)
+
+-- the list has the numbers of the types seen at the word w, each once, ascending
+pub record IsView (types : List TypeRow) (seen : List Spot) (w : ℕ) (view : List ℕ) : Type 0 where
+  pub ascending : IsStrictlyIncreasing view
+  pub sound : (n : ℕ) → Contains view n → SeesAt types seen w n
+  pub whole : (n : ℕ) → SeesAt types seen w n → Contains view n
+
+-- there is no such class, or its objects have no header word w
+abbrev pub NoWord : Program → Option ℕ → ℕ → Type 0
+NoWord p None w = Unit {0}
+NoWord p (Some c) w = words (chain_of p c) ≤ w
+
+-- the list has the types that objects of the class see at their header word w
+abbrev pub ViewAt : Program → Option ℕ → ℕ → List ℕ → Type 0
+ViewAt p None w view = ⊥
+ViewAt p (Some c) w view = (w < words (chain_of p c)) × IsView p.types (object_spots (chain_of p c)) w view
 
 -- the type that a method gives, if it is a declared type
 abbrev pub given_in : List Gives → ℕ → Option ℕ

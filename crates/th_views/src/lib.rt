@@ -11,7 +11,7 @@ ghost use Rattle.th_views.specs.Terms.{Term, Terms, Full, sub, result_of};
 ghost use Rattle.th_views.specs.declared.TypeRow.{TypeRow};
 
 use std::marker::Model;
-use th_type::NumberList;
+use th_type::{NumberList, Ty};
 
 /// Which declared supertype of a type comes next: the first, the second (with whether the first is
 /// topped), or one after these.
@@ -107,6 +107,25 @@ pub struct ClassRow {
     /// declared type: that of the first signature, from the body's class down to this one, that isn't
     /// a hidden method's.
     pub arrives: GivesList,
+}
+
+/// A class as it is written, as far as its layout needs it.
+#[derive(Drop)]
+pub struct ClassShape {
+    /// The number of its full name.
+    pub name: u32,
+    /// Its type, over its own parameters.
+    pub of: Ty,
+    /// The class that it inherits, by its number, with arguments over its own parameters.
+    pub inherits: Option<Ty>,
+    /// How many fields it has, without those that it inherits.
+    pub own_fields: u32,
+    /// How many words its where-clauses take, without those that it inherits.
+    pub where_words: u32,
+    /// The methods that are neither in its type nor inherited.
+    pub hidden: NumberList,
+    /// The methods for which it has a body.
+    pub methods: NumberList,
 }
 
 /// A slot of a table: its offset in bytes from the middle word, the method, the class whose body it

@@ -1,0 +1,11 @@
+pub mod Walking
+pub mod Steps
+pub mod Adding
+pub mod Marking
+pub mod Headed
+pub mod Chaining
+pub mod Lining
+pub mod Rowing
+pub mod Programmed
+pub mod Naming
+pub mod Featured

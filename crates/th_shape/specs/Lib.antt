@@ -1,0 +1,10 @@
+pub mod Places
+pub mod Heads
+pub mod Results
+pub mod Marks
+pub mod Own
+pub mod Lines
+pub mod Order
+pub mod Walk
+pub mod Placed
+pub mod Built

@@ -1,0 +1,6 @@
+use Rattle.std.proofs.Common.{◌≡◌, take}
+use Rattle.th_views.specs.Shapes.{names_of, shapes_of}
+use Rattle.th_table.proofs.making.ascending.Given as goal
+
+abbrev pub invariant-loop-class : goal.invariant-loop-class
+invariant-loop-class l = l.names.items ≡ names_of (shapes_of (take l.class-index l.classes))
