@@ -7,6 +7,7 @@ ghost use Rattle.th_tree.specs.DeclView.{interface_of};
 ghost use Rattle.th_type.specs.Types.{ty_of};
 ghost use Rattle.th_type.specs.Signatures.{find_sig, sig_of};
 ghost use Rattle.th_type.specs.Subtypes.{Subtype};
+ghost use Rattle.th_type.specs.Ways.{WaysEnd};
 ghost use Rattle.th_type.specs.Methods.{method_of};
 ghost use Rattle.th_type.specs.MethodTables.{Rising};
 ghost use Rattle.th_type.specs.Failures.{lowest};
@@ -88,6 +89,7 @@ impl Hierarchy {
         ensures answer { IsHierarchyAnswer names.old (map interface_of interfaces.now) result }
         ensures named { IfOk result (λ h. AllNamed names.old names.new h.items) }
         ensures grown { Grown names.old names.new }
+        ensures ends { IfOk result (λ h. WaysEnd h.types) }
     {
         let mut least = None;
         let Ok((index, types)) = declared(alloc, names, interfaces, &mut least) else {

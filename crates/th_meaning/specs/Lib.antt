@@ -9,5 +9,3 @@ pub mod View
 pub mod Laws
 pub mod Onto
 pub mod Typing
-pub mod Fits
-pub mod FitsProgram

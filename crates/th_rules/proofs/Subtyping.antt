@@ -7,7 +7,7 @@ use Rattle.th_type.specs.Declarations.{DeclaredType}
 use Rattle.th_type.specs.Subtypes.{parents, Climbs, Subtype}
 use Rattle.th_type.proofs.Same.{same_self, same_equal}
 use Rattle.th_rules.specs.Classes.{is_within, is_subtype}
-use Rattle.th_rules.specs.Ways.{WaysEnd}
+use Rattle.th_type.specs.Ways.{WaysEnd}
 
 either : (a b : Bool) → (a || b) ≡ true → (a ≡ true) ⊎ (b ≡ true)
 either true b h = inl refl

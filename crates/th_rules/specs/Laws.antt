@@ -13,7 +13,7 @@ use Rattle.th_rules.specs.Callees.{Wish, wished}
 use Rattle.th_rules.specs.Typing.{typed, typed_call}
 use Rattle.th_rules.specs.Failing.{fails, call_fails}
 use Rattle.th_rules.specs.AllTyped.{AllTyped}
-use Rattle.th_rules.specs.Ways.{WaysEnd}
+use Rattle.th_type.specs.Ways.{WaysEnd}
 
 -- an expression has a type exactly where it has no failure, where each local in scope has a type
 abbrev pub TypedWhereNothingFails : Type 0

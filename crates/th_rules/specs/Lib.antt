@@ -8,5 +8,4 @@ pub mod Typing
 pub mod Failing
 pub mod Raising
 pub mod AllTyped
-pub mod Ways
 pub mod Laws

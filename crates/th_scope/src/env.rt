@@ -1,5 +1,5 @@
 //! What is known where a unit stands.
-ghost use Rattle.th_rules.specs.Ways.{WaysEnd};
+ghost use Rattle.th_type.specs.Ways.{WaysEnd};
 
 use crate::items::Items;
 use crate::local::LocalList;

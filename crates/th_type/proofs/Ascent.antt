@@ -4,6 +4,7 @@ use Rattle.std.proofs.lemmas.Bool.Decides.{nat_tests}
 use Rattle.std.proofs.lemmas.List.{length-map}
 use Rattle.std.specs.Map.{lookup}
 use Rattle.th_type.specs.declared.above.Above.{Above}
+use Rattle.th_type.specs.declared.above.Ancestors.{Ancestors}
 use Rattle.th_type.specs.declared.place.Failure.{Failure}
 use Rattle.th_type.specs.Lists.{IsIn}
 use Rattle.th_type.specs.Types.{TypeExpr, TypeExprs, int_ty, bool_ty, text_ty, array_ty, named_ty, param_ty, list_of, subst_ty, subst_tys, same_ty}
@@ -108,17 +109,17 @@ absent_supers n ds h = supers_resolved n ds ∙ ap (λ o. resolved (members_in o
   by None e = e
   by (Some d) e = let p = decl_is n d ds e in absurd (h (subst (λ k. IsIn k (map (λ d. d.name) ds)) p.1 (in_map (λ d. d.name) d ds p.0)))
 
-ascends_at : (ds : List Declaration) (old : Option Failure) (es : List (ℕ × Above)) → Judging ds ds old None es → (n : ℕ) (o : Option Above) → lookup (nat_eq n) es ≡ o → Climbed (declared_types ds) n (up_in o)
+ascends_at : (ds : List Declaration) (old : Option Failure) (es : Ancestors) → Judging ds ds old None es → (n : ℕ) (o : Option Above) → lookup (nat_eq n) es.map.entries ≡ o → Climbed (declared_types ds) n (up_in es.pool o)
 ascends_at ds old es j n (Some a) e = (j.climbed refl n a e).1
-ascends_at ds old es j n None e = climbed_absent (declared_types ds) n (absent_supers n ds (λ i. look_in n es e (subst (λ ns. IsIn n ns) (sym j.names) i)))
+ascends_at ds old es j n None e = climbed_absent (declared_types ds) n (absent_supers n ds (λ i. look_in n es.map.entries e (subst (λ ns. IsIn n ns) (sym j.names) i)))
 
 -- where nothing fails the table is whole
-pub ascends : (ds : List Declaration) (old : Option Failure) (es : List (ℕ × Above)) → Judging ds ds old None es → Ascends (declared_types ds) (up_of es)
-ascends ds old es j n = ascends_at ds old es j n (lookup (nat_eq n) es) refl
+pub ascends : (ds : List Declaration) (old : Option Failure) (es : Ancestors) → Judging ds ds old None es → Ascends (declared_types ds) (up_of es)
+ascends ds old es j n = ascends_at ds old es j n (lookup (nat_eq n) es.map.entries) refl
 
 -- where nothing fails no declared type is tangled
-pub untangled : (ds : List Declaration) (old : Option Failure) (es : List (ℕ × Above)) → Judging ds ds old None es → (n : ℕ) → IsIn n (map (λ d. d.name) ds) → ¬ IsTangled ds n
-untangled ds old es j n i = by (lookup (nat_eq n) es) refl where
-  by : (o : Option Above) → lookup (nat_eq n) es ≡ o → ¬ IsTangled ds n
-  by None e = absurd (look_in n es e (subst (λ ns. IsIn n ns) (sym j.names) i))
+pub untangled : (ds : List Declaration) (old : Option Failure) (es : Ancestors) → Judging ds ds old None es → (n : ℕ) → IsIn n (map (λ d. d.name) ds) → ¬ IsTangled ds n
+untangled ds old es j n i = by (lookup (nat_eq n) es.map.entries) refl where
+  by : (o : Option Above) → lookup (nat_eq n) es.map.entries ≡ o → ¬ IsTangled ds n
+  by None e = absurd (look_in n es.map.entries e (subst (λ ns. IsIn n ns) (sym j.names) i))
   by (Some a) e = (j.climbed refl n a e).0

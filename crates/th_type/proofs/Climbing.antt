@@ -11,13 +11,13 @@ use Rattle.th_type.proofs.Taken.{taken_none}
 use Rattle.th_type.proofs.Resolved.{supers_resolved, heads_among, parents_among, distinct_names}
 use Rattle.th_type.proofs.Closure.{climbing_start, climbing_step, clash_start, clash_step}
 
-pub took_if : (xs ps ys : List TypeExpr) (b : Bool) → MatchBool b (Took xs ps ys) (Clashes xs ps) → b ≡ true → Took xs ps ys
-took_if xs ps ys true h e = h
-took_if xs ps ys false h e = cc
+pub took_if : (P Q : Type 0) (b : Bool) → MatchBool b P Q → b ≡ true → P
+took_if P Q true h e = h
+took_if P Q false h e = cc
 
-pub clash_if : (xs ps ys : List TypeExpr) (b : Bool) → MatchBool b (Took xs ps ys) (Clashes xs ps) → b ≡ false → Clashes xs ps
-clash_if xs ps ys true h e = cc
-clash_if xs ps ys false h e = h
+pub clash_if : (P Q : Type 0) (b : Bool) → MatchBool b P Q → b ≡ false → Q
+clash_if P Q true h e = cc
+clash_if P Q false h e = h
 
 start_taken : (ds : List Declaration) (n : ℕ) (ss : List SuperRef) → ss ≡ members_of ds n → all_taken no_ty ss ≡ supers_of (declared_types ds) n
 start_taken ds n ss e = taken_none ss ∙ ap resolved e ∙ sym (supers_resolved n ds)

@@ -1,7 +1,7 @@
 -- The table of methods, filled from the lowest types up.
 use Rattle.std.proofs.Common.{◌≡◌, ◌∙◌, ℕ, zero, suc, ◌+◌, ◌<◌, ◌≤◌, Bool, true, false, nat_eq, cond, List, [], ◌∷◌, ◌++◌, length, map, take, get_or, slice_get, Option, Some, None, option_map, is_some, refl, ap, sym, subst, inl, inr, arith, append_assoc, max}
 use Rattle.std.proofs.lemmas.Bool.Decides.{nat_tests}
-use Rattle.std.proofs.lemmas.List.{map-append, take_more}
+use Rattle.std.proofs.lemmas.List.{map-append, take_more, length-map}
 use Rattle.std.specs.Map.{lookup}
 use Rattle.std.specs.Global.{Vec}
 use Rattle.th_type.specs.declared.sig.Sig.{Sig}
@@ -19,7 +19,8 @@ use Rattle.th_type.specs.Declarations.{SuperRef, Declaration, declared_type, dec
 use Rattle.th_type.specs.Methods.{applied, method_up, method_of}
 use Rattle.th_type.specs.Rules.{WellFormed}
 use Rattle.th_type.specs.Judged.{Ascended}
-use Rattle.th_type.specs.Tables.{above_of, up_in, up_of}
+use Rattle.th_type.specs.declared.above.Ancestors.{Ancestors}
+use Rattle.th_type.specs.Tables.{entry_ty, above_of, up_in, up_of}
 use Rattle.th_type.specs.MethodTables.{Rising, Merged, sigs_in, methods_in, method_in, Joined, Settled, Put, Filling, MethodsRight, written_sigs}
 use Rattle.th_type.proofs.Members.{in_map, from_append}
 use Rattle.th_type.proofs.MethodLists.{or_assoc, find_subst}
@@ -237,16 +238,20 @@ look_member n a (e ∷ es) h = member_if n a e es (nat_eq n e.0) (look_member n 
   member_if n a e es true r h = (e, inl refl, cc)
   member_if n a e es false r h = let p = r h in (p.0, inr p.1, p.2)
 
-pub highest_bound : (es : List (ℕ × Above)) (h : ℕ) → ((e : ℕ × Above) → IsIn e es → length (above_of e.1) ≤ h) → (n : ℕ) → length (up_of es n) ≤ h
-highest_bound es h b n = by (lookup (nat_eq n) es) refl where
-  by : (o : Option Above) → lookup (nat_eq n) es ≡ o → length (up_in o) ≤ h
+pub highest_bound : (t : Ancestors) (h : ℕ) → ((e : ℕ × Above) → IsIn e t.map.entries → length e.1.map.entries ≤ h) → (n : ℕ) → length (up_of t n) ≤ h
+highest_bound t h b n = by (lookup (nat_eq n) t.map.entries) refl where
+  by : (o : Option Above) → lookup (nat_eq n) t.map.entries ≡ o → length (up_in t.pool o) ≤ h
   by None e = omega arith
-  by (Some a) e = let p = look_member n a es e in subst (λ (a : Above). length (above_of a) ≤ h) p.2 (b p.0 p.1)
+  by (Some a) e =
+      let p = look_member n a t.map.entries e in
+      let l : length (above_of t.pool a) ≡ length a.map.entries = length-map a.map.entries (entry_ty t.pool) in
+      let m : length a.map.entries ≤ h = subst (λ (a : Above). length a.map.entries ≤ h) p.2 (b p.0 p.1) in
+      omega (arith, l, m)
 
-pub highest_more : (es : List (ℕ × Above)) (k h : ℕ) (d : ℕ × Above) (l : ℕ) → slice_get es k ≡ Some d → l ≡ length (above_of d.1) → ((e : ℕ × Above) → IsIn e (take k es) → length (above_of e.1) ≤ h) → (e : ℕ × Above) → IsIn e (take (k + 1) es) → length (above_of e.1) ≤ max h l
+pub highest_more : (es : List (ℕ × Above)) (k h : ℕ) (d : ℕ × Above) (l : ℕ) → slice_get es k ≡ Some d → l ≡ length d.1.map.entries → ((e : ℕ × Above) → IsIn e (take k es) → length e.1.map.entries ≤ h) → (e : ℕ × Above) → IsIn e (take (k + 1) es) → length e.1.map.entries ≤ max h l
 highest_more es k h d l g q b e i = elim (from_append e (take k es) (d ∷ []) (subst (λ xs. IsIn e xs) (take_next es k d g) i)) [
   | inl j ↦ (let p = b e j in grind (arith, p))
-  | inr j ↦ elim j [ inl s ↦ (let p : length (above_of e.1) ≡ l = ap (λ (x : ℕ × Above). length (above_of x.1)) s ∙ sym q in grind (arith, p)) | inr z ↦ absurd z ]
+  | inr j ↦ elim j [ inl s ↦ (let p : length e.1.map.entries ≡ l = ap (λ (x : ℕ × Above). length x.1.map.entries) s ∙ sym q in grind (arith, p)) | inr z ↦ absurd z ]
 ]
 
 pub written_same : (ws : List Written) → written_sigs ws ≡ map (λ w. w.sig) (map written_of ws)

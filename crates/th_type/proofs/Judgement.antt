@@ -3,7 +3,7 @@ use Rattle.std.proofs.Common.{◌≡◌, ◌∙◌, ℕ, List, map, Option, Some
 use Rattle.std.specs.Global.{Vec}
 use Rattle.std.specs.Ordering.{nat_cmp}
 use Rattle.std.specs.List.Sorted.{IsSorted, IsPermutation}
-use Rattle.th_type.specs.declared.above.Above.{Above}
+use Rattle.th_type.specs.declared.above.Ancestors.{Ancestors}
 use Rattle.th_type.specs.declared.sig.Sig.{Sig}
 use Rattle.th_type.specs.declared.rows.Row.{Row}
 use Rattle.th_type.specs.declared.place.Failure.{Failure}
@@ -28,17 +28,17 @@ use Rattle.th_type.specs.Types.{TypeExprs, named_ty}
 use Rattle.th_type.specs.Declarations.{supers_of}
 use Rattle.th_type.specs.Lists.{IsIn}
 
-pub named_first : (ds : List Declaration) (old new : Option Failure) (es : List (ℕ × Above)) (f : Failure) → Judging ds ds old new es → new ≡ Some f → IsNamed ds old f
+pub named_first : (ds : List Declaration) (old new : Option Failure) (es : Ancestors) (f : Failure) → Judging ds ds old new es → new ≡ Some f → IsNamed ds old f
 named_first ds old new es f j e = inl (subst (λ o. IsLeastOf (FailsFirst ds old) o) e j.least)
 
-pub ascended_of : (ds : List Declaration) (old new : Option Failure) (es : List (ℕ × Above)) → Judging ds ds old new es → new ≡ None → Ascended ds (up_of es)
+pub ascended_of : (ds : List Declaration) (old new : Option Failure) (es : Ancestors) → Judging ds ds old new es → new ≡ None → Ascended ds (up_of es)
 ascended_of ds old new es j e = let k : Judging ds ds old None es = subst (λ o. Judging ds ds old o es) e j in record { climbed = ascends ds old es k; free = untangled ds old es k }
 
-pub named_second : (ds : List Declaration) → WellFormed ds → (old new least : Option Failure) (es : List (ℕ × Above)) (fs : List (ℕ × Vec Sig)) (f : Failure) → Judging ds ds old new es → new ≡ None → MethodsRight (declared_types ds) (up_of es) fs → least ≡ lowest None (all_failures (up_of es) fs ds) → least ≡ Some f → IsNamed ds old f
+pub named_second : (ds : List Declaration) → WellFormed ds → (old new least : Option Failure) (es : Ancestors) (fs : List (ℕ × Vec Sig)) (f : Failure) → Judging ds ds old new es → new ≡ None → MethodsRight (declared_types ds) (up_of es) fs → least ≡ lowest None (all_failures (up_of es) fs ds) → least ≡ Some f → IsNamed ds old f
 named_second ds w old new least es fs f j e r l h =
     inr (subst (λ o. IsLeastOf (FailsFirst ds old) o) e j.least, subst (λ o. IsLeastOf (MethodsFail ds) o) h (methods_least ds w (up_of es) (ascended_of ds old new es j e) fs r least l))
 
-pub none_fails : (ds : List Declaration) → WellFormed ds → (old new least : Option Failure) (es : List (ℕ × Above)) (fs : List (ℕ × Vec Sig)) → Judging ds ds old new es → new ≡ None → MethodsRight (declared_types ds) (up_of es) fs → least ≡ lowest None (all_failures (up_of es) fs ds) → least ≡ None → NoneFails ds old
+pub none_fails : (ds : List Declaration) → WellFormed ds → (old new least : Option Failure) (es : Ancestors) (fs : List (ℕ × Vec Sig)) → Judging ds ds old new es → new ≡ None → MethodsRight (declared_types ds) (up_of es) fs → least ≡ lowest None (all_failures (up_of es) fs ds) → least ≡ None → NoneFails ds old
 none_fails ds w old new least es fs j e r l h =
     (subst (λ o. IsLeastOf (FailsFirst ds old) o) e j.least, subst (λ o. IsLeastOf (MethodsFail ds) o) h (methods_least ds w (up_of es) (ascended_of ds old new es j e) fs r least l))
 
@@ -48,7 +48,7 @@ super_named ds up a n s args i =
     let e : h.0 ≡ s = cc in
     names_to ds s (subst (λ m. IsIn m (map (λ d. d.name) (declared_types ds))) e h.3)
 
-pub lattice_right : (ds : List Declaration) → WellFormed ds → (old new : Option Failure) (es : List (ℕ × Above)) (fs : List (ℕ × Vec Sig)) (D : List DeclaredType) (heads : List ℕ) → Judging ds ds old new es → new ≡ None → MethodsRight (declared_types ds) (up_of es) fs → D ≡ declared_types ds → IsSorted nat_cmp heads → IsPermutation (map (λ d. d.name) (declared_types ds)) heads → LatticeRight D heads (up_of es) fs
+pub lattice_right : (ds : List Declaration) → WellFormed ds → (old new : Option Failure) (es : Ancestors) (fs : List (ℕ × Vec Sig)) (D : List DeclaredType) (heads : List ℕ) → Judging ds ds old new es → new ≡ None → MethodsRight (declared_types ds) (up_of es) fs → D ≡ declared_types ds → IsSorted nat_cmp heads → IsPermutation (map (λ d. d.name) (declared_types ds)) heads → LatticeRight D heads (up_of es) fs
 lattice_right ds w old new es fs D heads j e r d s p =
     subst (λ D. LatticeRight D heads (up_of es) fs) (sym d) (record {
       fits = well_formed_fits ds w;

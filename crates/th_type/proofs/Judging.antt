@@ -13,18 +13,21 @@ use Rattle.th_type.specs.declared.typedef.Meaning.{Meaning}
 use Rattle.th_type.specs.declared.typedef.Meaning.TheVariants.{Head, Whole}
 use Rattle.th_type.specs.declared.typedef.Supertype.{Supertype}
 use Rattle.th_type.specs.declared.above.Above.{Above}
+use Rattle.th_type.specs.declared.above.Ancestors.{Ancestors}
 use Rattle.th_type.specs.Lists.{IsIn, is_in}
 use Rattle.th_type.specs.Types.{TypeExpr}
 use Rattle.th_type.specs.Failures.{place, failure, before, lower, lowest, unless, UpTo, IsLeastOf}
 use Rattle.th_type.specs.Declarations.{Meant, unresolved, parameter, by_head, whole, SuperRef, Declaration, super_of, meant_of, declared_types}
 use Rattle.th_type.specs.Rules.{names_meant, member_failures, list_failures, NamesDiffer, ReachesItself, HasTwo, IsHigh, IsTangled, FailsSupertypes}
 use Rattle.th_type.specs.Closure.{Climbed}
-use Rattle.th_type.specs.Tables.{above_of}
+use Rattle.th_type.specs.Pool.{Grows}
+use Rattle.th_type.specs.Tables.{above_of, Held}
 use Rattle.th_type.specs.Judged.{SameNumbers, Listed, Judged, FailsAmong, Judging}
 use Rattle.th_type.proofs.Members.{in_left, in_right, from_append, at_in}
 use Rattle.th_type.proofs.Least.{least_alike, least_lowest, lowest_append, up_to_self}
 use Rattle.th_type.proofs.Noting.{any_in}
 use Rattle.th_type.proofs.Closure.{climbed_none}
+use Rattle.th_type.proofs.Held.{above_grown, held_grown}
 
 pub is_in_push : (k n : ℕ) (ks : List ℕ) → is_in k (ks ++ n ∷ []) ≡ (nat_eq k n || is_in k ks)
 is_in_push k n [] = refl
@@ -124,10 +127,11 @@ least_self None = λ g h. cc
 least_self (Some f) = (refl, λ g h. let e : g ≡ f = cc in subst (λ g. UpTo f g) (sym e) (up_to_self f))
 
 -- nothing was judged
-pub judging_none : (ds : List Declaration) (old : Option Failure) (es : List (ℕ × Above)) → es ≡ [] → Judging ds [] old old es
-judging_none ds old es e = record {
+pub judging_none : (ds : List Declaration) (old : Option Failure) (t : Ancestors) → t.map.entries ≡ [] → Judging ds [] old old t
+judging_none ds old t e = record {
   least = least_alike (λ f. old ≡ Some f) (FailsAmong ds [] old) old (λ g h. inl h) (λ g h. elim h [ inl p ↦ p | inr q ↦ absurd q.1 ]) (least_self old);
   climbed = λ n k a h. let z : lookup (nat_eq k) [] ≡ Some a = subst (λ (es : List (ℕ × Above)). lookup (nat_eq k) es ≡ Some a) e h in absurd (cc);
+  held = λ k a h. let z : lookup (nat_eq k) [] ≡ Some a = subst (λ (es : List (ℕ × Above)). lookup (nat_eq k) es ≡ Some a) e h in absurd (cc);
   names = ap (map (λ e. e.0)) e;
 }
 
@@ -170,12 +174,13 @@ look_push {A} k n a x (e ∷ es) h = by (nat_eq k e.0) (look_push k n a x es) h 
   by false r h = r h
 
 -- a further declared type was judged
-pub judging_more : (ds ps : List Declaration) (d : Declaration) (old mid new : Option Failure) (es fs : List (ℕ × Above)) (a : Above) → Judging ds ps old mid es → Judged ds d mid new (above_of a) → fs ≡ es ++ (d.name, a) ∷ [] → Judging ds (ps ++ d ∷ []) old new fs
-judging_more ds ps d old mid new es fs a j b e = record {
+pub judging_more : (ds ps : List Declaration) (d : Declaration) (old mid new : Option Failure) (t u : Ancestors) (a : Above) → Judging ds ps old mid t → Grows t.pool u.pool → Judged ds d mid new (above_of u.pool a) → Held u.pool a → u.map.entries ≡ t.map.entries ++ (d.name, a) ∷ [] → Judging ds (ps ++ d ∷ []) old new u
+judging_more ds ps d old mid new t u a j g b w e = record {
   least = subst (λ o. IsLeastOf (FailsAmong ds (ps ++ d ∷ []) old) o) (sym b.least)
       (least_alike (λ g. FailsAmong ds ps old g ⊎ IsIn g (L ++ U)) (FailsAmong ds (ps ++ d ∷ []) old) (lowest mid (L ++ U)) forth back (least_lowest (FailsAmong ds ps old) mid (L ++ U) j.least));
   climbed = λ n k x h. climbed_by n k x (subst (λ fs. lookup (nat_eq k) fs ≡ Some x) e h);
-  names = ap (map (λ e. e.0)) e ∙ map-append (λ e. e.0) es ((d.name, a) ∷ []) ∙ ap (λ ns. ns ++ d.name ∷ []) j.names ∙ sym (map-append (λ d. d.name) ps (d ∷ []));
+  held = λ k x h. held_by k x (subst (λ fs. lookup (nat_eq k) fs ≡ Some x) e h);
+  names = ap (map (λ e. e.0)) e ∙ map-append (λ e. e.0) t.map.entries ((d.name, a) ∷ []) ∙ ap (λ ns. ns ++ d.name ∷ []) j.names ∙ sym (map-append (λ d. d.name) ps (d ∷ []));
 } where
   L : List Failure
   L = list_failures d.place.text [] d.supertypes
@@ -196,14 +201,17 @@ judging_more ds ps d old mid new es fs a j b e = record {
   back g (inl h) = inl (inl h)
   back g (inr (c, i, h)) = elim (from_append c ps (d ∷ []) i) [ inl k ↦ inl (inr (c, k, h)) | inr k ↦ elim k [ inl s ↦ inr (of_d g (subst (λ c. FailsSupertypes ds c g) s h)) | inr z ↦ absurd z ] ]
 
-  climbed_by : new ≡ None → (k : ℕ) (x : Above) → lookup (nat_eq k) (es ++ (d.name, a) ∷ []) ≡ Some x → (¬ IsTangled ds k) × Climbed (declared_types ds) k (above_of x)
+  held_by : (k : ℕ) (x : Above) → lookup (nat_eq k) (t.map.entries ++ (d.name, a) ∷ []) ≡ Some x → Held u.pool x
+  held_by k x h = elim (look_push k d.name a x t.map.entries h) [ inl q ↦ held_grown t.pool u.pool x g (j.held k x q) | inr q ↦ subst (λ y. Held u.pool y) (sym q.1) w ]
+
+  climbed_by : new ≡ None → (k : ℕ) (x : Above) → lookup (nat_eq k) (t.map.entries ++ (d.name, a) ∷ []) ≡ Some x → (¬ IsTangled ds k) × Climbed (declared_types ds) k (above_of u.pool x)
   climbed_by n k x h =
       let p = lowest_none mid (L ++ U) (sym b.least ∙ n) in
-      let t : b.holds ≡ true = unless_nil b.holds d.place (append_nil L U p.1) in
-      elim (look_push k d.name a x es h) [
-        | inl q ↦ j.climbed p.0 k x q
-        | inr q ↦ (let c : (¬ IsTangled ds d.name) × Climbed (declared_types ds) d.name (above_of a) = (subst (λ b. MatchBool b (¬ IsTangled ds d.name) (IsTangled ds d.name)) t b.decides, b.climbed t) in
-            subst (λ y. (¬ IsTangled ds k) × Climbed (declared_types ds) k (above_of y)) (sym q.1) (subst (λ k. (¬ IsTangled ds k) × Climbed (declared_types ds) k (above_of a)) (sym q.0) c))
+      let y : b.holds ≡ true = unless_nil b.holds d.place (append_nil L U p.1) in
+      elim (look_push k d.name a x t.map.entries h) [
+        | inl q ↦ (let c = j.climbed p.0 k x q in (c.0, subst (λ xs. Climbed (declared_types ds) k xs) (sym (above_grown t.pool u.pool x g (j.held k x q))) c.1))
+        | inr q ↦ (let c : (¬ IsTangled ds d.name) × Climbed (declared_types ds) d.name (above_of u.pool a) = (subst (λ b. MatchBool b (¬ IsTangled ds d.name) (IsTangled ds d.name)) y b.decides, b.climbed y) in
+            subst (λ y. (¬ IsTangled ds k) × Climbed (declared_types ds) k (above_of u.pool y)) (sym q.1) (subst (λ k. (¬ IsTangled ds k) × Climbed (declared_types ds) k (above_of u.pool a)) (sym q.0) c))
       ]
 
 look_absent : {A : Type 0} (n : ℕ) (es : List (ℕ × A)) → (IsIn n (map (λ e. e.0) es) → ⊥) → lookup (nat_eq n) es ≡ None

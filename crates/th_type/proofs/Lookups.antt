@@ -3,23 +3,24 @@ use Rattle.std.proofs.Common.{◌≡◌, ◌≢◌, ℕ, Bool, true, false, nat_
 use Rattle.std.proofs.lemmas.Bool.Decides.{nat_tests}
 use Rattle.std.proofs.lemmas.List.{map-append}
 use Rattle.std.specs.Map.{lookup}
-use Rattle.th_type.specs.declared.ty.TyList.{TyList}
 use Rattle.th_type.specs.declared.typedef.TypeDef.{TypeDef}
 use Rattle.th_type.specs.Lists.{IsIn}
-use Rattle.th_type.specs.Types.{named_ty, tys_of}
+use Rattle.th_type.specs.Types.{TypeExprs, named_ty}
+use Rattle.th_type.specs.Pool.{tys_at}
 use Rattle.th_type.specs.Declarations.{Declaration, named_decl, decl_of, decls_of, find_decl}
 use Rattle.th_type.specs.Closure.{find_head}
 use Rattle.th_type.specs.Tables.{entry_ty, entry_decl}
 use Rattle.th_type.specs.Rules.{NamesDiffer}
 
-head_if : (n : ℕ) (e : ℕ × TyList) (es : List (ℕ × TyList)) (b : Bool) → nat_eq n e.0 ≡ b → find_head (map entry_ty es) n ≡ option_map (λ a. named_ty n (tys_of a)) (lookup (nat_eq n) es)
-    → (if b then Some (entry_ty e) else find_head (map entry_ty es) n) ≡ option_map (λ a. named_ty n (tys_of a)) (cond b (Some e.1) (lookup (nat_eq n) es))
-head_if n e es true h r = let s : n ≡ e.0 = grind (arith, nat_tests) in ap (λ k. Some (named_ty k (tys_of e.1))) (sym s)
-head_if n e es false h r = r
+head_if : (ts : List TypeExprs) (n : ℕ) (e : ℕ × ℕ) (es : List (ℕ × ℕ)) (b : Bool) → nat_eq n e.0 ≡ b → find_head (map (entry_ty ts) es) n ≡ option_map (λ a. named_ty n (tys_at ts a)) (lookup (nat_eq n) es)
+    → (if b then Some (entry_ty ts e) else find_head (map (entry_ty ts) es) n) ≡ option_map (λ a. named_ty n (tys_at ts a)) (cond b (Some e.1) (lookup (nat_eq n) es))
+head_if ts n e es true h r = let s : n ≡ e.0 = grind (arith, nat_tests) in ap (λ k. Some (named_ty k (tys_at ts e.1))) (sym s)
+head_if ts n e es false h r = r
 
-pub head_lookup : (n : ℕ) (es : List (ℕ × TyList)) → find_head (map entry_ty es) n ≡ option_map (λ a. named_ty n (tys_of a)) (lookup (nat_eq n) es)
-head_lookup n [] = refl
-head_lookup n (e ∷ es) = head_if n e es (nat_eq n e.0) refl (head_lookup n es)
+-- the first type of a name in a table is the one that the table has under it
+pub head_lookup : (ts : List TypeExprs) (n : ℕ) (es : List (ℕ × ℕ)) → find_head (map (entry_ty ts) es) n ≡ option_map (λ a. named_ty n (tys_at ts a)) (lookup (nat_eq n) es)
+head_lookup ts n [] = refl
+head_lookup ts n (e ∷ es) = head_if ts n e es (nat_eq n e.0) refl (head_lookup ts n es)
 
 decl_if : (n : ℕ) (e : ℕ × TypeDef) (es : List (ℕ × TypeDef)) (b : Bool) → nat_eq n e.0 ≡ b → find_decl (map entry_decl es) n ≡ option_map (λ a. named_decl n a) (lookup (nat_eq n) es)
     → (if b then Some (entry_decl e) else find_decl (map entry_decl es) n) ≡ option_map (λ a. named_decl n a) (cond b (Some e.1) (lookup (nat_eq n) es))
@@ -34,9 +35,6 @@ copied_map : {A B : Type 0} (f : A → B) (r : Option (Bor A)) → option_map (�
 copied_map f None = refl
 copied_map f (Some x) = refl
 
-pub head_found_by : (n : ℕ) (es : List (ℕ × TyList)) (r : Option (Bor TyList)) → option_copied r ≡ lookup (nat_eq n) es → option_map (λ (a : Bor TyList). named_ty n (tys_of a.now)) r ≡ find_head (map entry_ty es) n
-head_found_by n es r h = copied_map (λ a. named_ty n (tys_of a)) r ∙ ap (option_map (λ a. named_ty n (tys_of a))) h ∙ sym (head_lookup n es)
-
 pub decl_found_by : (n : ℕ) (es : List (ℕ × TypeDef)) (r : Option (Bor TypeDef)) → option_copied r ≡ lookup (nat_eq n) es → option_map (λ (a : Bor TypeDef). named_decl n a.now) r ≡ find_decl (map entry_decl es) n
 decl_found_by n es r h = copied_map (λ a. named_decl n a) r ∙ ap (option_map (λ a. named_decl n a)) h ∙ sym (decl_lookup n es)
 
@@ -44,14 +42,8 @@ none_of_map : {A B : Type 0} (f : A → B) (o : Option A) → option_map f o ≡
 none_of_map f None h = refl
 none_of_map f (Some x) h = cc
 
-pub head_absent : (n : ℕ) (es : List (ℕ × TyList)) → find_head (map entry_ty es) n ≡ None → lookup (nat_eq n) es ≡ None
-head_absent n es h = none_of_map (λ a. named_ty n (tys_of a)) (lookup (nat_eq n) es) (sym (head_lookup n es) ∙ h)
-
 pub decl_absent : (n : ℕ) (es : List (ℕ × TypeDef)) → find_decl (map entry_decl es) n ≡ None → lookup (nat_eq n) es ≡ None
 decl_absent n es h = none_of_map (λ a. named_decl n a) (lookup (nat_eq n) es) (sym (decl_lookup n es) ∙ h)
-
-pub heads_push : (es : List (ℕ × TyList)) (n : ℕ) (a : TyList) → map entry_ty (es ++ (n, a) ∷ []) ≡ map entry_ty es ++ named_ty n (tys_of a) ∷ []
-heads_push es n a = map-append entry_ty es ((n, a) ∷ [])
 
 absent_if : (n : ℕ) (e : Declaration) (ds : List Declaration) (b : Bool) → nat_eq n e.name ≡ b → n ≢ e.name → find_decl ds n ≡ None → (if b then Some e else find_decl ds n) ≡ None
 absent_if n e ds true h q r = let s : n ≡ e.name = grind (arith, nat_tests) in absurd (q s)

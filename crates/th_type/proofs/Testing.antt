@@ -1,5 +1,5 @@
 -- The loops of the tests of signatures.
-use Rattle.std.proofs.Common.{◌≡◌, ◌∙◌, ℕ, zero, suc, ◌+◌, ◌<◌, Bool, true, false, nat_eq, ◌&&◌, ◌||◌, List, [], ◌∷◌, ◌++◌, length, map, take, drop, get_or, slice_get, Option, Some, option_map, refl, ap, sym, arith, append_assoc, take-append-drop}
+use Rattle.std.proofs.Common.{◌≡◌, ◌∙◌, ℕ, zero, suc, ◌+◌, ◌<◌, ◌≤◌, Bool, true, false, nat_eq, ◌&&◌, ◌||◌, List, [], ◌∷◌, ◌++◌, length, map, take, drop, get_or, slice_get, Option, Some, option_map, refl, ap, sym, arith, append_assoc, take-append-drop}
 use Rattle.std.proofs.lemmas.List.{map-append, take_more}
 use Rattle.std.proofs.Math.Seq.{drop-cons}
 use Rattle.std.specs.List.{list_any, list_all}
@@ -46,6 +46,16 @@ any_append f (x ∷ xs) ys = ap (λ b. f x || b) (any_append f xs ys) ∙ or_or 
 
 pub param_there : (f : ℕ → ℕ → Option Signature) (m : ℕ) (xs : List TypeExpr) (k n : ℕ) (args : _) (b : Bool) → slice_get xs k ≡ Some (named_ty n args) → b ≡ gives_param (f n m) → b ≡ true → true ≡ list_any (param_at f m) xs
 param_there f m xs k n args b g e h = sym (any_there (param_at f m) xs k (named_ty n args) g (sym e ∙ h))
+
+take_all : {A : Type 0} (xs : List A) (k : ℕ) → length xs ≤ k → take k xs ≡ xs
+take_all [] zero l = refl
+take_all [] (suc k) l = refl
+take_all (x ∷ xs) zero l = absurd (omega (arith, l))
+take_all (x ∷ xs) (suc k) l = ap (λ ys. x ∷ ys) (take_all xs k (omega (arith, l)))
+
+-- all types of the list were looked at
+pub param_none : (f : ℕ → ℕ → Option Signature) (m : ℕ) (xs : List TypeExpr) (k : ℕ) → length xs ≤ k → list_any (param_at f m) (take k xs) ≡ false → false ≡ list_any (param_at f m) xs
+param_none f m xs k l h = sym (ap (list_any (param_at f m)) (sym (take_all xs k l)) ∙ h)
 
 pub param_more : (f : ℕ → ℕ → Option Signature) (m : ℕ) (xs : List TypeExpr) (k n : ℕ) (args : _) (b : Bool) → slice_get xs k ≡ Some (named_ty n args) → b ≡ gives_param (f n m) → b ≡ false → list_any (param_at f m) (take k xs) ≡ false → list_any (param_at f m) (take (k + 1) xs) ≡ false
 param_more f m xs k n args b g e h i =

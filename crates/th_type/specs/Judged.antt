@@ -4,13 +4,14 @@ use Rattle.std.specs.Bool.{MatchBool}
 use Rattle.std.specs.Map.{lookup}
 use Rattle.th_type.specs.declared.place.Failure.{Failure}
 use Rattle.th_type.specs.declared.above.Above.{Above}
+use Rattle.th_type.specs.declared.above.Ancestors.{Ancestors}
 use Rattle.th_type.specs.Lists.{IsIn, is_in}
 use Rattle.th_type.specs.Types.{TypeExpr}
 use Rattle.th_type.specs.Failures.{lowest, unless, IsLeastOf}
 use Rattle.th_type.specs.Declarations.{SuperRef, Declaration, declared_types}
 use Rattle.th_type.specs.Rules.{names_meant, member_failures, list_failures, IsTangled, FailsSupertypes}
 use Rattle.th_type.specs.Closure.{Climbed}
-use Rattle.th_type.specs.Tables.{above_of}
+use Rattle.th_type.specs.Tables.{above_of, Held}
 
 -- the same numbers are in both lists
 abbrev pub SameNumbers : List ℕ → List ℕ → Type 0
@@ -33,10 +34,11 @@ abbrev pub FailsAmong : List Declaration → List Declaration → Option Failure
 FailsAmong ds ps found f = (found ≡ Some f) ⊎ ((d : Declaration) × IsIn d ps × FailsSupertypes ds d f)
 
 -- the declared types ps were judged; the table has what each reaches
-pub record Judging (ds ps : List Declaration) (old new : Option Failure) (table : List (ℕ × Above)) : Type 0 where
+pub record Judging (ds ps : List Declaration) (old new : Option Failure) (table : Ancestors) : Type 0 where
   pub least : IsLeastOf (FailsAmong ds ps old) new
-  pub climbed : new ≡ None → (n : ℕ) (a : Above) → lookup (nat_eq n) table ≡ Some a → (¬ IsTangled ds n) × Climbed (declared_types ds) n (above_of a)
-  pub names : map (λ e. e.0) table ≡ map (λ d. d.name) ps
+  pub climbed : new ≡ None → (n : ℕ) (a : Above) → lookup (nat_eq n) table.map.entries ≡ Some a → (¬ IsTangled ds n) × Climbed (declared_types ds) n (above_of table.pool a)
+  pub held : (n : ℕ) (a : Above) → lookup (nat_eq n) table.map.entries ≡ Some a → Held table.pool a
+  pub names : map (λ e. e.0) table.map.entries ≡ map (λ d. d.name) ps
 
 -- the table has for each number just the types that it reaches, and no declared type is tangled
 pub record Ascended (ds : List Declaration) (up : ℕ → List TypeExpr) : Type 0 where

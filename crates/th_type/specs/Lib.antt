@@ -5,9 +5,11 @@ pub mod Failures
 pub mod Signatures
 pub mod Declarations
 pub mod Subtypes
+pub mod Ways
 pub mod Methods
 pub mod Rules
 pub mod Closure
+pub mod Pool
 pub mod Tables
 pub mod Cycles
 pub mod Judged

@@ -1,24 +1,24 @@
 //! The supertypes that a declared type reaches.
-ghost use Rattle.std.specs.Prelude.{◌≡◌, ◌∷◌, ◌++◌, [], length, slice_get, map, option_map, IfOk, None, Some, ◌<◌, nat_eq, option_copied, ℕ, ◌≤◌, ◌^◌};
+ghost use Rattle.std.specs.Prelude.{◌≡◌, ◌∷◌, ◌++◌, [], length, slice_get, OnOk, IfOk, None, Some, ◌<◌, nat_eq, option_copied, ℕ, List, ◌≤◌, ◌^◌};
 ghost use Rattle.std.specs.Map.{lookup};
-ghost use Rattle.th_type.specs.Types.{TypeExprs, named_ty, ty_of, tys_of};
+ghost use Rattle.th_type.specs.Types.{TypeExprs, named_ty, ty_of};
 ghost use Rattle.th_type.specs.Tables.{above_of, up_of, is_reached, table_subtype};
-ghost use Rattle.th_type.specs.Closure.{find_head};
 
-use crate::ty::{Args, Ty, TyList};
+use crate::pool::Pool;
+use crate::ty::{Args, Ty};
 use indexmap::IndexMap;
 use std::alloc::{AllocError, Global};
 
-/// Declared types with arguments, each declared type once. A contract sees the list of the types.
+/// Declared types, each once, and for each its arguments, by the number of a list of a pool.
 #[derive(Drop)]
 pub(crate) struct Above {
-    map: IndexMap<u32, TyList>,
+    map: IndexMap<u32, u32>,
 }
 
 impl Above {
     /// No types.
     pub(crate) fn new(alloc: Global) -> Above
-        ensures { above_of result ≡ [] }
+        ensures { result.map.entries ≡ [] }
     {
         Above {
             map: IndexMap::new(alloc),
@@ -27,59 +27,54 @@ impl Above {
 
     /// How many types there are.
     pub(crate) fn len(&self) -> usize
-        ensures count { result ≡ length (above_of self.now) }
+        ensures count { result ≡ length self.now.map.entries }
         ensures small { result < 2 ^ 63 }
     {
         self.map.len()
     }
 
     /// The arguments of the declared type with the number; None exactly where it is not there.
-    pub(crate) fn find(&self, name: u32) -> Option<&TyList>
-        ensures { option_map (λ args. named_ty name (tys_of args.now)) result ≡ find_head (above_of self.now) name }
+    pub(crate) fn find(&self, name: u32) -> Option<u32>
+        ensures { result ≡ lookup (nat_eq name) self.now.map.entries }
     {
-        self.map.get(&name)
+        self.map.get(&name).copied()
     }
 
-    /// The number and a copy of the arguments of the type at place `k`.
-    pub(crate) fn copy_at(&self, alloc: Global, k: usize) -> Result<(u32, TyList), AllocError>
-        requires { k < length (above_of self.now) }
-        ensures { IfOk result (λ e. slice_get (above_of self.now) k ≡ Some (named_ty e.0 (tys_of e.1))) }
+    /// The number and the arguments of the type at place `k`.
+    pub(crate) fn entry_at(&self, k: usize) -> (u32, u32)
+        requires { k < length self.now.map.entries }
+        ensures { slice_get self.now.map.entries k ≡ Some result }
     {
         match self.map.get_index(k) {
-            Some((name, args)) => {
-                let args = args.try_clone(alloc)?;
-                Ok((*name, args))
-            }
+            Some((name, list)) => (*name, *list),
             None => unreachable!(),
         }
     }
 
     /// The number of the declared type at place `k`.
     pub(crate) fn name_at(&self, k: usize) -> u32
-        requires { k < length (above_of self.now) }
-        ensures { (args : TypeExprs) × (slice_get (above_of self.now) k ≡ Some (named_ty result args)) }
+        requires { k < length self.now.map.entries }
+        ensures { (ts : List TypeExprs) → (args : TypeExprs) × (slice_get (above_of ts self.now) k ≡ Some (named_ty result args)) }
     {
-        match self.map.get_index(k) {
-            Some((name, _)) => *name,
-            None => unreachable!(),
-        }
+        self.entry_at(k).0
     }
 
     /// Puts a declared type that is not there last.
-    pub(crate) fn push(&mut self, name: u32, args: TyList) -> Result<(), AllocError>
-        requires { find_head (above_of self.old) name ≡ None }
-        ensures { IfOk result (λ _. above_of self.new ≡ above_of self.old ++ named_ty name (tys_of args) ∷ []) }
+    pub(crate) fn push(&mut self, name: u32, list: u32) -> Result<(), AllocError>
+        requires { lookup (nat_eq name) self.old.map.entries ≡ None }
+        ensures { OnOk result (self.new.map.entries ≡ self.old.map.entries ++ (name, list) ∷ []) }
     {
-        match self.map.insert(name, args) {
+        match self.map.insert(name, list) {
             Ok(_) => Ok(()),
             Err(_) => Err(AllocError),
         }
     }
 }
 
-/// For each declared type the supertypes that it reaches.
+/// For each declared type the supertypes that it reaches, and the pool with their arguments.
 #[derive(Drop)]
 pub(crate) struct Ancestors {
+    pub(crate) pool: Pool,
     pub(crate) map: IndexMap<u32, Above>,
 }
 
@@ -89,6 +84,7 @@ impl Ancestors {
         ensures { result.map.entries ≡ [] }
     {
         Ancestors {
+            pool: Pool::new(alloc),
             map: IndexMap::new(alloc),
         }
     }
@@ -103,7 +99,8 @@ impl Ancestors {
     /// Puts a declared type that is not there last.
     pub(crate) fn put(&mut self, name: u32, above: Above) -> Result<(), AllocError>
         requires { lookup (nat_eq name) self.old.map.entries ≡ None }
-        ensures { IfOk result (λ _. self.new.map.entries ≡ self.old.map.entries ++ (name, above) ∷ []) }
+        ensures entries { IfOk result (λ _. self.new.map.entries ≡ self.old.map.entries ++ (name, above) ∷ []) }
+        ensures pool { self.new.pool ≡ self.old.pool }
     {
         match self.map.insert(name, above) {
             Ok(_) => Ok(()),
@@ -113,21 +110,21 @@ impl Ancestors {
 
     /// Whether the first type is a subtype of the second, by the table.
     pub(crate) fn is_subtype(&self, a: &Ty, b: &Ty) -> bool
-        ensures { result ≡ table_subtype (up_of self.now.map.entries) (ty_of a.now) (ty_of b.now) }
+        ensures { result ≡ table_subtype (up_of self.now) (ty_of a.now) (ty_of b.now) }
     {
         a.is_same(b) || self.is_above(a, b)
     }
 
     /// Whether the first type is a declared type that reaches the second.
     fn is_above(&self, a: &Ty, b: &Ty) -> bool
-        ensures { result ≡ is_reached (up_of self.now.map.entries) (ty_of a.now) (ty_of b.now) }
+        ensures { result ≡ is_reached (up_of self.now) (ty_of a.now) (ty_of b.now) }
     {
         let (Ty::Named(name, args), Ty::Named(other, others)) = (a, b) else {
             return false;
         };
         match self.find(*name) {
             Some(above) => match above.find(*other) {
-                Some(list) => list.is_with(Args::List(args), others),
+                Some(list) => self.pool.list_is(list, Args::List(args), others),
                 None => false,
             },
             None => false,
@@ -136,7 +133,7 @@ impl Ancestors {
 
     /// How many supertypes the declared type with the number reaches.
     pub(crate) fn rank(&self, name: u32) -> usize
-        ensures { result ≡ length (up_of self.now.map.entries name) }
+        ensures { result ≡ length (up_of self.now name) }
     {
         match self.find(name) {
             Some(above) => above.len(),
@@ -146,7 +143,7 @@ impl Ancestors {
 
     /// How many supertypes a declared type reaches at most.
     pub(crate) fn highest(&self) -> usize
-        ensures bound { (n : ℕ) → length (up_of self.now.map.entries n) ≤ result }
+        ensures bound { (n : ℕ) → length (up_of self.now n) ≤ result }
         ensures small { result < 2 ^ 63 }
     {
         let mut highest: usize = 0;

@@ -1,17 +1,19 @@
 //! The rule on supertypes. docs/LANGUAGE.md, "Subtypes", states it.
-ghost use Rattle.std.specs.Prelude.{◌≡◌, ◌<◌, [], length, map, slice_get, IfOk, Some};
+ghost use Rattle.std.specs.Prelude.{◌≡◌, ◌<◌, [], length, map, slice_get, IfOk, OnOk, Some};
 ghost use Rattle.indexmap.specs.IndexSet.{keys};
 ghost use Rattle.th_type.specs.Declarations.{declared_types, super_of, meant_of, named_decl};
 ghost use Rattle.th_type.specs.Failures.{lowest};
 ghost use Rattle.th_type.specs.Rules.{WellFormed, list_failures, member_failures};
 ghost use Rattle.th_type.specs.Judged.{Listed, Judged, Judging};
-ghost use Rattle.th_type.specs.Tables.{defs_of, above_of};
+ghost use Rattle.th_type.specs.Pool.{Grows};
+ghost use Rattle.th_type.specs.Tables.{defs_of, above_of, Held};
 
 use crate::above::{Above, Ancestors};
 use crate::climb::climb;
 use crate::cycles::reaches_itself;
 use crate::defs::Defs;
 use crate::place::{Failure, Place, demand};
+use crate::pool::Pool;
 use crate::typedef::{Meaning, Supertype, TypeDef};
 use indexmap::IndexSet;
 use std::alloc::{AllocError, Global};
@@ -65,16 +67,19 @@ fn judge_list(
 fn judge_type(
     alloc: Global,
     defs: &Defs,
+    pool: &mut Pool,
     name: u32,
     def: &TypeDef,
     found: &mut Option<Failure>,
 ) -> Result<Above, AllocError>
     requires { WellFormed (defs_of defs.now) }
-    ensures { IfOk result (λ above. Judged (defs_of defs.now) (named_decl name def.now) found.old found.new (above_of above)) }
+    ensures judged { IfOk result (λ above. Judged (defs_of defs.now) (named_decl name def.now) found.old found.new (above_of pool.new above)) }
+    ensures held { IfOk result (λ above. Held pool.new above) }
+    ensures grown { OnOk result (Grows pool.old pool.new) }
 {
     judge_list(alloc, found, def.place.text, &def.supertypes)?;
     let is_cyclic = reaches_itself(alloc, defs, name)?;
-    match climb(alloc, defs, name)? {
+    match climb(alloc, defs, pool, name)? {
         Some(above) => {
             demand(found, !is_cyclic, SUPERTYPES, def.place);
             Ok(above)
@@ -93,12 +98,12 @@ pub(crate) fn judge_supertypes(
     found: &mut Option<Failure>,
 ) -> Result<Ancestors, AllocError>
     requires { WellFormed (defs_of defs.now) }
-    ensures { IfOk result (λ table. Judging (defs_of defs.now) (defs_of defs.now) found.old found.new table.map.entries) }
+    ensures { IfOk result (λ table. Judging (defs_of defs.now) (defs_of defs.now) found.old found.new table) }
 {
     let mut table = Ancestors::new(alloc);
     for k in 0..defs.len() {
         let (name, def) = defs.at(k);
-        let above = judge_type(alloc, defs, name, def, found)?;
+        let above = judge_type(alloc, defs, &mut table.pool, name, def, found)?;
         table.put(name, above)?;
     }
     Ok(table)

@@ -69,7 +69,7 @@ impl Tables {
     /// Whether the method gives a type parameter in one of the types.
     fn is_param_above(&self, above: &Above, method: u32) -> bool
         requires { AllRise (tables_methods self.now) }
-        ensures { result ≡ list_any (param_at (method_in (tables_methods self.now)) method) (above_of above.now) }
+        ensures { result ≡ list_any (param_at (method_in (tables_methods self.now)) method) (above_of self.now.ancestors.pool above.now) }
     {
         for k in 0..above.len() {
             if self.gives_param(above.name_at(k), method) {

@@ -12,6 +12,7 @@ ghost use Rattle.th_type.specs.Rules.{WellFormed, IsNamed, NoneFails};
 ghost use Rattle.th_type.specs.MethodTables.{Rising};
 ghost use Rattle.th_type.specs.Refusals.{RefusedBy};
 ghost use Rattle.th_type.specs.Ordering.{SupersFirst};
+ghost use Rattle.th_type.specs.Ways.{WaysEnd};
 
 use crate::above::Ancestors;
 use crate::defs::Defs;
@@ -72,7 +73,8 @@ fn judged(
     mut found: Option<Failure>,
 ) -> Result<Result<Lattice, Failure>, AllocError>
     requires { WellFormed (decls_of declared.items) }
-    ensures { IfOk result (λ r. MatchResult r (λ l. (l ≡ declared_types (decls_of declared.items)) × NoneFails (decls_of declared.items) found) (λ f. IsNamed (decls_of declared.items) found f)) }
+    ensures answer { IfOk result (λ r. MatchResult r (λ l. (l ≡ declared_types (decls_of declared.items)) × NoneFails (decls_of declared.items) found) (λ f. IsNamed (decls_of declared.items) found f)) }
+    ensures ends { IfOk result (λ r. IfOk r (λ l. WaysEnd l)) }
 {
     let defs = Defs::of(alloc, declared)?;
     let ancestors = judge_supertypes(alloc, &defs, &mut found)?;
@@ -100,7 +102,7 @@ fn judged(
 
 /// The numbers in ascending order of how many supertypes the declared types reach.
 fn by_rank(alloc: Global, heads: &[u32], ancestors: &Ancestors) -> Result<Vec<u32>, AllocError>
-    ensures sorted { IfOk result (λ order. IsNonDecreasingBy (λ n. length (up_of ancestors.now.map.entries n)) order.items) }
+    ensures sorted { IfOk result (λ order. IsNonDecreasingBy (λ n. length (up_of ancestors.now n)) order.items) }
     ensures same { IfOk result (λ order. IsPermutation heads.now order.items) }
 {
     let mut order = Vec::from_slice(alloc, heads)?;
@@ -117,7 +119,8 @@ impl Lattice {
         found: Option<Failure>,
     ) -> Result<Lattice, LatticeError>
         requires { WellFormed (decls_of declared.items) }
-        ensures { MatchResult result (λ l. (l ≡ declared_types (decls_of declared.items)) × NoneFails (decls_of declared.items) found) (λ e. RefusedBy (decls_of declared.items) found e) }
+        ensures answer { MatchResult result (λ l. (l ≡ declared_types (decls_of declared.items)) × NoneFails (decls_of declared.items) found) (λ e. RefusedBy (decls_of declared.items) found e) }
+        ensures ends { IfOk result (λ l. WaysEnd l) }
     {
         match judged(alloc, declared, found) {
             Ok(Ok(lattice)) => Ok(lattice),

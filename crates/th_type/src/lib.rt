@@ -13,6 +13,7 @@ mod lattice;
 mod lists;
 mod methods;
 mod place;
+mod pool;
 mod rows;
 mod sig;
 mod ty;

@@ -135,9 +135,9 @@ fn fill(
     rank: usize,
 ) -> Result<(), AllocError>
     requires formed { WellFormed (defs_of defs.now) }
-    requires ascended { Ascended (defs_of defs.now) (up_of ancestors.now.map.entries) }
-    requires filled { Filling (declared_types (defs_of defs.now)) (up_of ancestors.now.map.entries) table.old.map.entries rank [] }
-    ensures { IfOk result (λ _. Filling (declared_types (defs_of defs.now)) (up_of ancestors.now.map.entries) table.new.map.entries rank (defs_of defs.now)) }
+    requires ascended { Ascended (defs_of defs.now) (up_of ancestors.now) }
+    requires filled { Filling (declared_types (defs_of defs.now)) (up_of ancestors.now) table.old.map.entries rank [] }
+    ensures { IfOk result (λ _. Filling (declared_types (defs_of defs.now)) (up_of ancestors.now) table.new.map.entries rank (defs_of defs.now)) }
 {
     for k in 0..defs.len() {
         let (name, def) = defs.at(k);
@@ -155,8 +155,8 @@ pub(crate) fn tabulate(
     ancestors: &Ancestors,
 ) -> Result<Methods, AllocError>
     requires formed { WellFormed (defs_of defs.now) }
-    requires ascended { Ascended (defs_of defs.now) (up_of ancestors.now.map.entries) }
-    ensures { IfOk result (λ table. MethodsRight (declared_types (defs_of defs.now)) (up_of ancestors.now.map.entries) table.map.entries) }
+    requires ascended { Ascended (defs_of defs.now) (up_of ancestors.now) }
+    ensures { IfOk result (λ table. MethodsRight (declared_types (defs_of defs.now)) (up_of ancestors.now) table.map.entries) }
 {
     let mut table = Methods::new(alloc);
     let ranks = ancestors.highest() + 1;

@@ -229,6 +229,16 @@ impl<'a> Args<'a> {
             Args::List(list) => list.get(place as usize),
         }
     }
+
+    /// Whether the argument at a place is the type; where there is none, whether the type is the parameter.
+    pub(crate) fn is_at(&self, place: u32, ty: &Ty) -> bool
+        ensures { result ≡ same_ty (arg_at (args_items self.now) place place) (ty_of ty.now) }
+    {
+        match self.get(place) {
+            Some(arg) => arg.is_same(ty),
+            None => ty.is_param(place),
+        }
+    }
 }
 
 /// The type with the k-th argument in place of each parameter `k`.

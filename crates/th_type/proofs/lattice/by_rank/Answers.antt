@@ -4,4 +4,4 @@ use Rattle.th_type.specs.Tables.{up_of}
 use Rattle.th_type.proofs.lattice.by_rank.Goals as goal
 
 pub returns-clause-sorted : goal.returns-clause-sorted
-returns-clause-sorted c = IsNonDecreasingBy-from_sort_by_key (λ n. length (up_of c.args.ancestors.now.map.entries n)) _ c.sort_unstable_by_key.ensures.sorted (λ a r f k. search rules)
+returns-clause-sorted c = IsNonDecreasingBy-from_sort_by_key (λ n. length (up_of c.args.ancestors.now n)) _ c.sort_unstable_by_key.ensures.sorted (λ a r f k. search rules)

@@ -12,7 +12,7 @@ use Rattle.th_type.proofs.methods.fill.Goals.{then-rank+in_ok-fill_one, else-ran
 pub loop-k-preserved : goal.loop-k-preserved
 loop-k-preserved c =
     let ds = defs_of c.args.defs.now in
-    let up = up_of c.args.ancestors.now.map.entries in
+    let up = up_of c.args.ancestors.now in
     let d = named_decl c.at-name.result.0 c.at-name.result.1.now in
     subst (λ ps. Filling (declared_types ds) up c.if-rank.table.map.entries c.args.rank ps) (sym (take_next ds c.loop-k.k d c.at-name.ensures))
     (elim c.if-rank.branch [

@@ -17,15 +17,15 @@ returns-in-Rule-clause-answer c =
     let same : c.in-Ok.index ≡ items_of c.args.names.now fs = ap (λ (s : Numbering). s.items) c.in-Ok.ensures.items in
     subst (λ (is : Items). IsRefusal is fs f.rule f.place) same
     (refusal c.in-Ok.index fs (decls_of c.in-Ok.types.items) c.declared.new.least f c.in-Ok.ensures.types c.in-Ok.ensures.least
-    (subst (λ (e : LatticeError). RefusedBy (decls_of c.in-Ok.types.items) c.declared.new.least e) c.in-Rule.is c.in-Err.ensures))
+    (subst (λ (e : LatticeError). RefusedBy (decls_of c.in-Ok.types.items) c.declared.new.least e) c.in-Rule.is c.in-Err.ensures.answer))
 
 pub returns-in-Ok-of-clause-answer : goal.returns-in-Ok-of-clause-answer
 returns-in-Ok-of-clause-answer c =
     let fs = map interface_of c.args.interfaces.now in
     let same : c.in-Ok.index ≡ items_of c.args.names.now fs = ap (λ (s : Numbering). s.items) c.in-Ok.ensures.items in
     let types : c.in-Ok-of.lattice ≡ declared_types (declarations (items_of c.args.names.now fs) fs) =
-    c.in-Ok-of.ensures.0 ∙ ap declared_types (c.in-Ok.ensures.types ∙ ap (λ (is : Items). declarations is fs) same) in (
+    c.in-Ok-of.ensures.answer.0 ∙ ap declared_types (c.in-Ok.ensures.types ∙ ap (λ (is : Items). declarations is fs) same) in (
       λ j. record { items = same j; types = types j },
       subst (λ (is : Items). NoRuleFails is fs) same
-          (acceptance c.in-Ok.index fs (decls_of c.in-Ok.types.items) c.declared.new.least c.in-Ok.ensures.types c.in-Ok.ensures.least c.in-Ok-of.ensures.1),
+          (acceptance c.in-Ok.index fs (decls_of c.in-Ok.types.items) c.declared.new.least c.in-Ok.ensures.types c.in-Ok.ensures.least c.in-Ok-of.ensures.answer.1),
     )

@@ -6,4 +6,4 @@ use Rattle.th_type.specs.Tables.{above_of, tables_methods}
 use Rattle.th_type.proofs.known.Tables.is_param_above.Given as goal
 
 abbrev pub invariant-loop-k : goal.invariant-loop-k
-invariant-loop-k l = list_any (param_at (method_in (tables_methods l.self)) l.method) (take l.k (above_of l.above)) ≡ false
+invariant-loop-k l = list_any (param_at (method_in (tables_methods l.self)) l.method) (take l.k (above_of l.self.ancestors.pool l.above)) ≡ false
