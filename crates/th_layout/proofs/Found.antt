@@ -8,20 +8,20 @@ use Rattle.std.proofs.lemmas.Bool.{cases_Bool, eqb-true}
 use Rattle.th_views.specs.declared.Spot.{Spot}
 use Rattle.th_views.specs.Tree.{Tree, span}
 use Rattle.th_views.specs.Listed.{spots, first_of, HasSpot}
-use Rattle.th_layout.specs.declared.maps.Casts.{Casts}
-use Rattle.th_layout.proofs.Spotting.{spot_below}
+use Rattle.th_offsets.specs.declared.maps.Casts.{Casts}
+use Rattle.th_offsets.proofs.Spotting.{spot_below}
 use Rattle.th_views.specs.Lookups.{index_of, after, type_numbers, class_numbers, class_place, size_of, field_of, field_at, cast_at}
 use Rattle.th_views.specs.Rows.{Program, tree_of, chain_of, inherited, Inherited}
 use Rattle.th_layout.specs.declared.layout.Layout.TheInside.{Inside}
-use Rattle.th_layout.specs.declared.objects.Object.{Object}
+use Rattle.th_offsets.specs.declared.objects.Object.{Object}
 use Rattle.th_layout.specs.declared.sides.ClassSide.{ClassSide}
-use Rattle.th_layout.specs.Known.{IsObject}
+use Rattle.th_offsets.specs.Known.{IsObject}
 use Rattle.th_layout.specs.Inside.{laid, Kept}
 use Rattle.th_layout.specs.Held.{IsHeld}
 use Rattle.th_layout.specs.Laid.{IsClassSide, IsTypeSide, CastedAt}
 use Rattle.th_layout.proofs.Judged.{type_many, class_many}
-use Rattle.th_layout.proofs.Seeing.{object_got}
-use Rattle.th_layout.proofs.Tallies.{chain_at, class_got, link}
+use Rattle.th_offsets.proofs.Seeing.{object_got}
+use Rattle.th_offsets.proofs.Tallies.{chain_at, class_got, link}
 
 after_within : (o : Option ℕ) (k n : ℕ) → ((j : ℕ) → o ≡ Some j → j < n) → after o ≡ Some k → k < suc n
 after_within None k n f e = absurd (cc)

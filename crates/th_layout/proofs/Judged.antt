@@ -11,9 +11,9 @@ use Rattle.th_views.specs.Lookups.{type_numbers, class_numbers}
 use Rattle.th_views.specs.Rows.{Program, graph_of, tree_of, chain_of, climb, linked, inherited, inherits_in, supers_in, marked_in, own_in}
 use Rattle.th_views.specs.Sums.{sum, plain_depth, sum_words, class_slots, most_down}
 use Rattle.th_views.proofs.Summed.{span_sum, words_less}
-use Rattle.th_layout.specs.declared.counts.Tally.{Tally}
-use Rattle.th_layout.specs.Counts.{Count, counted, paired, lesser, least_above, word_counts, slot_counts, field_counts, IsTally}
-use Rattle.th_layout.specs.Known.{Summed, Deep, Tallied, TallyAt, Few, Shallow, FewWords, FewFields}
+use Rattle.th_offsets.specs.declared.counts.Tally.{Tally}
+use Rattle.th_offsets.specs.Counts.{Count, counted, paired, lesser, least_above, word_counts, slot_counts, field_counts, IsTally}
+use Rattle.th_offsets.specs.Known.{Summed, Deep, Tallied, TallyAt, Few, Shallow, FewWords, FewFields}
 use Rattle.th_layout.specs.Refusals.{Accepted}
 
 over_cap : (limit cap c x : ℕ) → limit < cap → c ≡ min cap x → nat_lt limit c ≡ nat_lt limit x

@@ -13,16 +13,16 @@ use Rattle.th_views.specs.Rows.{Program, tree_of, chain_of, climb, inherited, in
 use Rattle.th_views.specs.Chain.{start}
 use Rattle.th_views.specs.Tree.{Tree, Place, Above}
 use Rattle.th_layout.specs.declared.layout.Layout.TheInside.{Inside}
-use Rattle.th_layout.specs.declared.maps.Offsets.{Offsets}
-use Rattle.th_layout.specs.declared.heads_of.Heads.{Heads}
+use Rattle.th_offsets.specs.declared.maps.Offsets.{Offsets}
+use Rattle.th_offsets.specs.declared.heads_of.Heads.{Heads}
 use Rattle.th_layout.specs.declared.sides.ClassSide.{ClassSide}
 use Rattle.th_layout.specs.declared.sides.TypeSide.{TypeSide}
 use Rattle.th_layout.specs.Inside.{laid, Kept}
 use Rattle.th_layout.specs.Laid.{IsClassSide, IsTypeSide}
-use Rattle.th_layout.specs.Known.{Homed, HomedAt, HiddenAts, HiddenAtsOf, Owned, OwnedAt}
-use Rattle.th_layout.specs.Given.{Bodied, BodiedAt, types_offer}
-use Rattle.th_layout.specs.Maps.{or_else, offset_in}
-use Rattle.th_layout.proofs.Mapped.{Rooted, rooted, owned_in, owned_append, owned_lowered, owned_spots, Answers, answer_or, first_place, offers_answer, home_first, offset_owned}
+use Rattle.th_offsets.specs.Known.{Homed, HomedAt, HiddenAts, HiddenAtsOf, Owned, OwnedAt}
+use Rattle.th_offsets.specs.Given.{Bodied, BodiedAt, types_offer}
+use Rattle.th_offsets.specs.Maps.{or_else, offset_in}
+use Rattle.th_offsets.proofs.Mapped.{Rooted, rooted, owned_in, owned_append, owned_lowered, owned_spots, Answers, answer_or, first_place, offers_answer, home_first, offset_owned}
 
 -- each type of the chain is the tree of its name
 abbrev AllRooted : (ℕ → Tree) → List Link → Type 0

@@ -13,27 +13,25 @@ use Rattle.std.proofs.lemmas.Map.Entries.{lookup_from_place}
 use Rattle.std.proofs.lemmas.Map.Keys.{IsDistinct-from_sorted}
 use Rattle.th_views.specs.declared.Slot.{Slot}
 use Rattle.th_views.specs.declared.Spot.{Spot}
-use Rattle.th_views.specs.declared.ClassRow.{ClassRow}
-use Rattle.th_views.specs.declared.TypeRow.{TypeRow}
 use Rattle.th_views.specs.Tree.{Tree, own_of, is_up, base, span, place}
-use Rattle.th_views.specs.Chain.{Link, start, hidden}
+use Rattle.th_views.specs.Chain.{hidden}
 use Rattle.th_views.specs.Contents.{body_of, own_slots, seen_slots, hidden_slots, first_at, slot_at, table_slots}
-use Rattle.th_views.specs.Listed.{spots, lowered, first_of}
+use Rattle.th_views.specs.Listed.{spots, first_of}
 use Rattle.th_views.specs.Lookups.{offset, to_type, lowering, cast_at}
 use Rattle.th_views.specs.Objects.{object_spots, raised}
-use Rattle.th_views.specs.Rows.{Program, tree_of, chain_of, climb, linked, inherited, inherits_in, Ordered, Inherited}
-use Rattle.th_layout.specs.declared.maps.Casts.{Casts}
+use Rattle.th_views.specs.Rows.{Program, tree_of, chain_of}
+use Rattle.th_offsets.specs.declared.maps.Casts.{Casts}
 use Rattle.th_layout.specs.Laid.{Casted, IsClassSide}
 use Rattle.th_layout.specs.declared.sides.ClassSide.{ClassSide}
-use Rattle.th_layout.specs.declared.views.Spots.{Spots}
-use Rattle.th_layout.specs.Known.{Few, ViewedAt, Within, Typed, TypedAt}
-use Rattle.th_layout.specs.Maps.{or_else, placed}
+use Rattle.th_offsets.specs.declared.views.Spots.{Spots}
+use Rattle.th_offsets.specs.Known.{Few}
+use Rattle.th_offsets.specs.Maps.{or_else, placed}
 use Rattle.th_layout.specs.Runs.{own_run, spot_slots, IsTable}
 use Rattle.th_layout.proofs.Found.{casted_got, first_has}
 use Rattle.th_layout.proofs.Judged.{bare_tree, none_past}
-use Rattle.th_layout.proofs.Pushed.{within_more, within_append, within_lowered, within_grow}
-use Rattle.th_layout.proofs.Sited.{same_place}
-use Rattle.th_layout.proofs.Spotting.{spot_below}
+use Rattle.th_offsets.proofs.Sited.{same_place}
+use Rattle.th_offsets.proofs.Spotting.{spot_below}
+use Rattle.th_offsets.proofs.Viewing.{viewed_got}
 
 -- the first of two lists of slots
 pub first_append : (a b : List Slot) (o : ℤ) → first_at (a ++ b) o ≡ or_else (first_at a o) (first_at b o)
@@ -90,38 +88,8 @@ pub seen_end : (p : Program) (c w i : ℕ) (l all : List Spot) (o : ℤ) (x firs
     → or_else x (first_at (seen_slots p c w (drop i l)) o) ≡ or_else first (first_at (seen_slots p c w l) o) → x ≡ or_else first (first_at (seen_slots p c w all) o)
 seen_end p c w i l all o x first e h g = sym (none_after x) ∙ ap (λ v. or_else x (first_at (seen_slots p c w v) o)) (sym (drop_all l i h)) ∙ g ∙ ap (λ v. or_else first (first_at (seen_slots p c w v) o)) e
 
-pub viewed_got : (l : List Spots) (n : ℕ) (d : Spots) (chain : List Link) → n < length l → ViewedAt (slice_get l n) chain → (get_or l n d).list.items ≡ object_spots chain
-viewed_got [] n d chain h g = absurd (omega arith)
-viewed_got (x ∷ xs) zero d chain h g = g
-viewed_got (x ∷ xs) (suc n) d chain h g = viewed_got xs n d chain (omega arith) g
-
 pub seen_is : (p : Program) (s : ClassSide) (c : ℕ) (d : Spots) (l : List Spot) → IsClassSide p s → c < length p.classes → l ≡ (get_or s.seen.items c d).list.items → l ≡ object_spots (chain_of p c)
 seen_is p s c d l k h e = let i : c < length s.seen.items = omega arith in e ∙ viewed_got s.seen.items c d (chain_of p c) i (k.seen.1 c i)
-
--- the types that an object sees are the program's
-within_tree : (types : List TypeRow) → Ordered types → (t : ℕ) → t < length types → Within (length types) (spots (tree_of types t))
-within_tree types o t h = within_more (suc t) (length types) (spots (tree_of types t)) (omega arith) (within_grow types o t t (le_refl t))
-
-within_linked : (p : Program) → Ordered p.types → (n : ℕ) → TypedAt (length p.types) (slice_get p.classes n) → (rest : List Link) → Within (length p.types) (object_spots rest)
-    → Within (length p.types) (object_spots (linked p.types (slice_get p.classes n) rest))
-within_linked p o n t rest w = by (slice_get p.classes n) t
-  where
-    by : (x : Option ClassRow) → TypedAt (length p.types) x → Within (length p.types) (object_spots (linked p.types x rest))
-    by None t = tt
-    by (Some c) t = within_append (length p.types) (lowered (start (linked p.types (Some c) rest)) (spots (tree_of p.types c.of))) (object_spots rest)
-        (within_lowered (length p.types) (start (linked p.types (Some c) rest)) (spots (tree_of p.types c.of)) (within_tree p.types o c.of t)) w
-
-within_inherited : (p : Program) (h : ℕ) (d : Option ℕ) → ((k : ℕ) → Within (length p.types) (object_spots (climb p h k))) → Within (length p.types) (object_spots (inherited (climb p h) d))
-within_inherited p h None again = tt
-within_inherited p h (Some k) again = again k
-
-pub within_chain : (p : Program) → Ordered p.types → Typed p → (h n : ℕ) → Within (length p.types) (object_spots (climb p h n))
-within_chain p o t zero n = within_linked p o n (t n) [] tt
-within_chain p o t (suc h) n = within_linked p o n (t n) (inherited (climb p h) (inherits_in (slice_get p.classes n)))
-    (within_inherited p h (inherits_in (slice_get p.classes n)) (λ k. within_chain p o t h k))
-
-pub within_seen : (p : Program) (c : ℕ) (l : List Spot) → Ordered p.types → Typed p → l ≡ object_spots (chain_of p c) → Within (length p.types) l
-within_seen p c l o t e = subst (Within (length p.types)) (sym e) (within_chain p o t c c)
 
 -- the distance that a cast's map has
 pub lowering_found : (p : Program) (casts : List Casts) (a b w : ℕ) (d : Casts) → length casts ≡ length p.types → Casted p.types casts → a < length casts → get nat_eq (get_or casts a d).words b ≡ Some w → 4 * w ≡ lowering p a b

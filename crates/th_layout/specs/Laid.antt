@@ -1,13 +1,13 @@
 -- What a layout keeps of its program: of its types, of its classes, and the places of their numbers.
 use Rattle.std.specs.Prelude.{◌≡◌, ℕ, ◌<◌, ◌≤◌, length, nat_eq, List, Option, Some, None, slice_get}
 use Rattle.std.specs.HashMap.{get}
-use Rattle.th_layout.specs.declared.maps.Casts.{Casts}
+use Rattle.th_offsets.specs.declared.maps.Casts.{Casts}
 use Rattle.th_layout.specs.declared.sides.TypeSide.{TypeSide}
 use Rattle.th_layout.specs.declared.sides.ClassSide.{ClassSide}
 use Rattle.th_layout.specs.declared.sides.Places.{Places}
 use Rattle.th_layout.specs.declared.sides.Sums.{Sums}
-use Rattle.th_layout.specs.Known.{Done, Summed, Spotted, Tallied, Homed, Formed, HiddenAts, Viewed, Few, FewWords, FewFields, Shallow, Placed, Typed, HiddenNames, Owned, WordsViewed}
-use Rattle.th_layout.specs.Given.{GivenTypes, GivenClasses, Arriving, Bodied}
+use Rattle.th_offsets.specs.Known.{Done, Summed, Spotted, Tallied, Homed, Formed, HiddenAts, Viewed, Few, FewWords, FewFields, Shallow, Placed, Typed, HiddenNames, Owned, WordsViewed}
+use Rattle.th_offsets.specs.Given.{GivenTypes, GivenClasses, Arriving, Bodied}
 use Rattle.th_views.specs.Objects.{raised}
 use Rattle.th_views.specs.declared.TypeRow.{TypeRow}
 use Rattle.th_views.specs.Tree.{Tree}

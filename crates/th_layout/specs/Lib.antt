@@ -1,9 +1,4 @@
-pub mod Walks
-pub mod Maps
-pub mod Counts
-pub mod Known
 pub mod Refusals
-pub mod Given
 pub mod Laid
 pub mod Runs
 pub mod Inside

@@ -10,7 +10,7 @@ use Rattle.th_views.specs.Chain.{words}
 use Rattle.th_views.specs.Rows.{Program, tree_of, chain_of}
 use Rattle.th_views.specs.Tree.{own_of}
 use Rattle.th_views.specs.declared.Spot.{Spot}
-use Rattle.th_layout.specs.Maps.{placed}
+use Rattle.th_offsets.specs.Maps.{placed}
 
 -- the slot of a method of the type t, the k-th upward or downward
 abbrev pub slot_for : Program → ℕ → ℕ → ℕ → Bool → ℕ → Slot

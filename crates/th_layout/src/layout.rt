@@ -3,9 +3,12 @@ ghost use Rattle.std.specs.Option.{ForSome};
 ghost use Rattle.std.specs.Prelude.{None, Some, is_some};
 ghost use Rattle.std.specs.Prelude.{◌≡◌, ◌≤◌, ◌<◌, ◌^◌, length, IfOk, MatchOption, MatchResult};
 ghost use Rattle.th_layout.specs.Held.{HeldAt};
-ghost use Rattle.th_layout.specs.Given.{types_offer};
-ghost use Rattle.th_layout.specs.Known.{Typed};
-ghost use Rattle.th_layout.specs.Refusals.{Accepted, RefusedBy};
+ghost use Rattle.th_offsets.specs.Given.{types_offer};
+ghost use Rattle.th_offsets.specs.Known.{Typed};
+ghost use Rattle.th_layout.specs.Refusals.{Accepted, RefusedBy, RefusedFor};
+ghost use Rattle.th_shape.specs.Placed.{IsProgramOf};
+ghost use Rattle.th_type.specs.Closure.{Distinct};
+ghost use Rattle.th_views.specs.Shapes.{HasLines, IsTyped, names_of, shapes_of};
 ghost use Rattle.th_layout.specs.Runs.{IsTable, IsTableAnswer};
 ghost use Rattle.th_views.specs.Lookups.{cast_at, cast_of, class_place, field_of, group_at, knows, narrowed_at, narrowed_of, size_of, slot_of, sum_of, to_class, to_type, type_place, words_of, NoWord, ViewAt, where_true};
 ghost use Rattle.th_views.specs.Chain.{among, hidden, lookup};
@@ -20,7 +23,9 @@ use crate::sides::{
 use crate::tables::{bridge_of, class_bridge, table_at};
 use std::alloc::{AllocError, Global};
 use std::marker::Model;
-use th_views::{ClassRow, Slot, TypeRow};
+use th_hier::Hierarchy;
+use th_shape::rows_of;
+use th_views::{ClassRow, ClassShape, Slot, TypeRow};
 
 /// What a class's objects hold: their header words, and their where-words and fields with those that the class inherits.
 #[derive(Clone, Copy)]
@@ -54,6 +59,25 @@ impl Model for Layout {
 }
 
 impl Layout {
+    /// The layout of the types of a hierarchy and of these classes, or the first limit above which a count of theirs is, and the
+    /// least number of a type or class with such a count. More types or classes than 2^32 - 1 are want of memory.
+    pub fn of(
+        alloc: Global,
+        hierarchy: &Hierarchy,
+        classes: &[ClassShape],
+        limit: u32,
+    ) -> Result<Layout, LayoutError>
+        requires limit { limit ≤ 64 }
+        requires lines { HasLines (shapes_of classes.now) }
+        requires names { Distinct (names_of (shapes_of classes.now)) }
+        requires typed { IsTyped hierarchy.now.types (shapes_of classes.now) }
+        ensures { MatchResult result (λ l. IsProgramOf hierarchy.now.types (shapes_of classes.now) l × Accepted limit l)
+            (λ e. RefusedFor limit hierarchy.now.types (shapes_of classes.now) e) }
+    {
+        let rows = rows_of(alloc, hierarchy, classes)?;
+        Layout::of_rows(alloc, rows.types, rows.classes, limit)
+    }
+
     /// The layout of these types and classes. Each type's supertypes stand before it, and each
     /// inherited class before its heirs.
     pub fn of_rows(

@@ -1,13 +1,13 @@
 //! The limits of a layout, and which type or class is refused.
 ghost use Rattle.std.specs.Prelude.{◌≡◌, ◌≤◌, ◌+◌, ◌<◌, ℕ, length, map, max, IfOk, MatchResult};
-ghost use Rattle.th_layout.specs.Known.{Deep, Summed, Tallied};
+ghost use Rattle.th_offsets.specs.Known.{Deep, Summed, Tallied};
 ghost use Rattle.th_layout.specs.Refusals.{Accepted, RefusedBy};
-ghost use Rattle.th_layout.specs.Counts.{field_counts, least_above, lesser, paired, slot_counts, word_counts};
+ghost use Rattle.th_offsets.specs.Counts.{field_counts, least_above, lesser, paired, slot_counts, word_counts};
 ghost use Rattle.th_layout.specs.declared.limits.LayoutError.TheVariants.{Memory};
 ghost use Rattle.th_views.specs.Lookups.{class_numbers, type_numbers};
 
-use crate::counts::{Tally, least_over, lesser_of};
 use std::alloc::{AllocError, Global};
+use th_offsets::{Tally, least_over, lesser_of};
 use th_views::{ClassRow, TypeRow};
 use thiserror::Error;
 

@@ -1,26 +1,22 @@
 //! What a layout keeps of its types and of its classes.
 ghost use Rattle.std.specs.HashMap.{get};
 ghost use Rattle.std.specs.Prelude.{◌≡◌, ◌≤◌, ◌<◌, ◌^◌, ℕ, length, nat_eq, IfOk, MatchResult};
-ghost use Rattle.th_layout.specs.Known.{Few, FewFields, FewWords, Shallow, Typed};
+ghost use Rattle.th_offsets.specs.Known.{Few, FewFields, FewWords, Shallow, Typed};
 ghost use Rattle.th_layout.specs.Laid.{IsClassSide, IsPlaces, IsSums, IsTypeSide};
 ghost use Rattle.th_layout.specs.Refusals.{Accepted, RefusedBy};
 ghost use Rattle.th_views.specs.Lookups.{class_numbers, index_of, type_numbers};
 ghost use Rattle.th_views.specs.Rows.{chain_of, Inherited, Ordered};
 ghost use Rattle.th_views.specs.Sums.{class_slots};
 
-use crate::counts::{Tally, all_greatest, all_plain, all_tallies};
-use crate::heads::{Facts, all_facts, all_sums};
-use crate::heads_of::{Heads, all_arrivals, all_bodies, all_class_heads, all_type_heads};
 use crate::limits::{LayoutError, class_names, judge, type_names};
-use crate::maps::{Casts, Offsets, all_casts, places};
-use crate::objects::{Object, all_hidden, all_objects};
-use crate::owned::all_owned;
-use crate::seen::{all_hidden_offsets, all_seen};
-use crate::seen_words::{WordTypes, all_views};
-use crate::slots::{all_depths, all_offsets, raised_of};
-use crate::views::{Spots, all_spots};
 use std::alloc::{AllocError, Global};
 use std::collections::HashMap;
+use th_offsets::{
+    Casts, Facts, Heads, Object, Offsets, Spots, Tally, WordTypes, all_arrivals, all_bodies,
+    all_casts, all_class_heads, all_depths, all_facts, all_greatest, all_hidden,
+    all_hidden_offsets, all_objects, all_offsets, all_owned, all_plain, all_seen, all_spots,
+    all_sums, all_tallies, all_type_heads, all_views, places, raised_of,
+};
 use th_type::NumberList;
 use th_views::{ClassRow, TypeRow};
 

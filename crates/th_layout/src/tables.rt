@@ -4,10 +4,10 @@ ghost use Rattle.std.specs.HashMap.{get as hash_get};
 ghost use Rattle.std.specs.Ordering.{int_cmp};
 ghost use Rattle.std.specs.Prelude.{◌≡◌, ◌≤◌, ◌<◌, ◌+◌, ℤ, length, IfOk, OnOk, [], ◌∷◌, slice_get, ◌*◌, ℕ, cond, nat_eq, option_map, unwrap_or};
 ghost use Rattle.std.specs.Prelude.{map as map_list};
-ghost use Rattle.th_layout.specs.Given.{Arriving, Bodied, GivenClasses, GivenTypes};
-ghost use Rattle.th_layout.specs.Known.{Few};
+ghost use Rattle.th_offsets.specs.Given.{Arriving, Bodied, GivenClasses, GivenTypes};
+ghost use Rattle.th_offsets.specs.Known.{Few};
 ghost use Rattle.th_layout.specs.Laid.{Casted, IsClassSide, IsTypeSide};
-ghost use Rattle.th_layout.specs.Maps.{or_else};
+ghost use Rattle.th_offsets.specs.Maps.{or_else};
 ghost use Rattle.th_layout.specs.Runs.{IsTable, own_run, spot_slots};
 ghost use Rattle.th_views.specs.Contents.{body_of, first_at, hidden_slots, own_slots, seen_slots, slot_at};
 ghost use Rattle.th_views.specs.Lookups.{between, given_in, class_arrives, class_gives, lowering, to_class, to_type, type_gives};
@@ -15,12 +15,10 @@ ghost use Rattle.th_views.specs.Objects.{object_spots};
 ghost use Rattle.th_views.specs.Rows.{chain_of, tree_of, Ordered};
 ghost use Rattle.th_views.specs.Tree.{own_of};
 
-use crate::counts::first_known;
-use crate::heads_of::Heads;
-use crate::maps::{Casts, offset_of};
 use crate::sides::{ClassSide, TypeSide};
 use std::alloc::{AllocError, Global};
 use std::collections::BTreeMap;
+use th_offsets::{Casts, Heads, first_known, offset_of};
 use th_views::{ClassRow, Slot, Spot, TypeRow};
 
 /// Keeps a slot where there is none at its offset yet.

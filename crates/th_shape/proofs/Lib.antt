@@ -1,3 +1,4 @@
+pub mod Partial
 pub mod Walking
 pub mod Steps
 pub mod Adding

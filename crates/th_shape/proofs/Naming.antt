@@ -10,7 +10,8 @@ use Rattle.th_views.specs.declared.ClassRow.{ClassRow}
 use Rattle.th_views.specs.Shapes.{Shape, shape_of, shapes_of, names_of}
 use Rattle.th_shape.specs.Order.{IsOrder}
 use Rattle.th_shape.specs.Placed.{place_by}
-use Rattle.th_shape.specs.Built.{ups_in, names_at, name_in, Ready, UpResults, HasResults, AllDone, RowsSoFar, ClassesBuilt}
+use Rattle.th_shape.specs.Built.{ups_in, names_at, name_in, Ready, UpResults, HasResults, ClassesBuilt}
+use Rattle.th_shape.proofs.Partial.{AllDone, RowsSoFar}
 use Rattle.th_shape.proofs.Lining.{many_map, same_ups, some_within}
 use Rattle.th_shape.proofs.Rowing.{got_or, base_before, order_within}
 

@@ -17,7 +17,8 @@ use Rattle.th_views.specs.Shapes.{Shape, shape_of, names_of, find_shape, base_na
 use Rattle.th_shape.specs.Placed.{place_by, place_in, IsClassRow, IsRowOf, ClassRows}
 use Rattle.th_shape.specs.Order.{up_at, Closed, IsOrder}
 use Rattle.th_shape.specs.Lines.{Extends, sig_result, arrival, named_by}
-use Rattle.th_shape.specs.Built.{ups_in, names_at, name_in, shape_at, base_at, Ready, HasResults, ResultsAt, UpResults, ResultsBuilt, DoneAt, AllDone, ClassBuilt, RowBuilt, RowsSoFar, ClassesBuilt, ExtendsBase}
+use Rattle.th_shape.specs.Built.{ups_in, names_at, name_in, shape_at, base_at, Ready, HasResults, ResultsAt, UpResults, ResultsBuilt, ClassBuilt, RowBuilt, ClassesBuilt, ExtendsBase}
+use Rattle.th_shape.proofs.Partial.{DoneAt, AllDone, RowsSoFar}
 use Rattle.th_shape.proofs.Chaining.{get_map, got_in, index_first, index_got}
 use Rattle.th_shape.proofs.Headed.{head_named}
 use Rattle.th_shape.proofs.Lining.{place_base, find_index, found_self, get_up, within_some, some_within, many_map, line_at, same_place, same_base}

@@ -102,13 +102,6 @@ pub record Ready (D : List DeclaredType) (types : List ℕ) (f : ℕ → Option 
 pub record ResultsBuilt (D : List DeclaredType) (S : List Shape) (s : Shape) (results : ClassResults) : Type 0 where
   pub fits : (above : List Shape) → IsLine S (base_name s) above → HasResults D (s ∷ above) results
 
-abbrev pub DoneAt : List DeclaredType → List Shape → Option ℕ → ClassResults → Type 0
-DoneAt D S k results = (s : Shape) × (shape_at S k ≡ Some s) × ResultsBuilt D S s results
-
--- the results of the first classes of the order
-abbrev pub AllDone : List DeclaredType → List Shape → List ℕ → List ClassResults → Type 0
-AllDone D S order done = (k : ℕ) (r : ClassResults) → slice_get done k ≡ Some r → DoneAt D S (slice_get order k) r
-
 -- the row of the class at a place of the order
 pub record RowBuilt (D : List DeclaredType) (f g : ℕ → Option ℕ) (S : List Shape) (order : List ℕ) (k : Option ℕ) (r : ClassRow) : Type 0 where
   pub shape : Shape
@@ -120,7 +113,3 @@ pub record RowBuilt (D : List DeclaredType) (f g : ℕ → Option ℕ) (S : List
 pub record ClassesBuilt (D : List DeclaredType) (f g : ℕ → Option ℕ) (S : List Shape) (order : List ℕ) (rows : List ClassRow) : Type 0 where
   pub many : length rows ≡ length order
   pub each : (k : ℕ) (r : ClassRow) → slice_get rows k ≡ Some r → RowBuilt D f g S order (slice_get order k) r
-
--- the rows of the first classes of the order
-abbrev pub RowsSoFar : List DeclaredType → (ℕ → Option ℕ) → (ℕ → Option ℕ) → List Shape → List ℕ → List ClassRow → Type 0
-RowsSoFar D f g S order rows = (k : ℕ) (r : ClassRow) → slice_get rows k ≡ Some r → RowBuilt D f g S order (slice_get order k) r

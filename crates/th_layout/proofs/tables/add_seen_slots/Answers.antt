@@ -1,5 +1,6 @@
-use Rattle.th_layout.proofs.Running.{seen_next, seen_end, seen_is, within_seen}
-use Rattle.th_layout.proofs.Sited.{within_at}
+use Rattle.th_layout.proofs.Running.{seen_next, seen_end, seen_is}
+use Rattle.th_offsets.proofs.Viewing.{within_seen}
+use Rattle.th_offsets.proofs.Sited.{within_at}
 use Rattle.std.proofs.Common.{length, ap, ◌∙◌}
 use Rattle.th_layout.proofs.tables.add_seen_slots.Goals as goal
 

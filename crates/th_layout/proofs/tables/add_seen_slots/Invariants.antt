@@ -2,7 +2,7 @@ use Rattle.std.proofs.Common.{◌≡◌, ℤ, drop}
 use Rattle.std.specs.Ordering.{int_cmp}
 use Rattle.std.specs.BTreeMap.{get}
 use Rattle.th_views.specs.Contents.{first_at, seen_slots}
-use Rattle.th_layout.specs.Maps.{or_else}
+use Rattle.th_offsets.specs.Maps.{or_else}
 use Rattle.th_layout.proofs.tables.add_seen_slots.Given as goal
 
 abbrev pub invariant-loop-spot : goal.invariant-loop-spot

@@ -1,9 +1,9 @@
 use Rattle.std.proofs.Common.{◌≡◌, ◌≤◌, ◌+◌, length, arith, sym, ap, ◌∙◌, subst}
 use Rattle.th_views.specs.Tree.{base}
 use Rattle.th_views.specs.Rows.{tree_of}
-use Rattle.th_layout.specs.Known.{Placed}
+use Rattle.th_offsets.specs.Known.{Placed}
 use Rattle.th_layout.proofs.Running.{own_made}
-use Rattle.th_layout.proofs.Sited.{first_ok, first_base, own_is, room_at, upward_at}
+use Rattle.th_offsets.proofs.Sited.{first_ok, first_base, own_is, room_at, upward_at}
 use Rattle.th_layout.proofs.tables.add_type_slots.Goals as goal
 
 pub first_known-base-requires : goal.first_known-base-requires

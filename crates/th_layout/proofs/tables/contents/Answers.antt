@@ -2,7 +2,7 @@ use Rattle.std.proofs.Common.{◌≡◌, ◌∙◌, rules, None}
 use Rattle.std.specs.BTreeMap.{get}
 use Rattle.std.specs.Ordering.{int_cmp}
 use Rattle.th_layout.proofs.Running.{contents_made}
-use Rattle.th_layout.proofs.Seeing.{hidden_names, hidden_fits}
+use Rattle.th_offsets.proofs.Seeing.{hidden_names, hidden_fits}
 use Rattle.th_layout.proofs.tables.contents.Goals as goal
 
 pub add_anchor_slots-requires-clause-few : goal.add_anchor_slots-requires-clause-few

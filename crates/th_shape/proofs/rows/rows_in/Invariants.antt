@@ -2,7 +2,7 @@ use Rattle.std.proofs.Common.{◌≡◌, length, take}
 use Rattle.std.specs.Prelude.{nat_eq}
 use Rattle.std.specs.HashMap.{get}
 use Rattle.th_views.specs.Shapes.{shapes_of}
-use Rattle.th_shape.specs.Built.{AllDone, RowsSoFar}
+use Rattle.th_shape.proofs.Partial.{AllDone, RowsSoFar}
 use Rattle.th_shape.proofs.rows.rows_in.Given as goal
 
 abbrev pub invariant-loop-k : goal.invariant-loop-k

@@ -40,4 +40,4 @@ pub returns-clause-ends : goal.returns-clause-ends
 returns-clause-ends c =
     subst WaysEnd (sym c.in_ok-rows-in-None-least.ensures)
     (ways_end (defs_of c.in_ok-defs.defs) (subst (λ ds. WellFormed ds) (sym c.in_ok-defs.ensures) c.requires) (up_of c.in_ok-ancestors.ancestors)
-      (ascended_of (defs_of c.in_ok-defs.defs) c.args.found c.judge_supertypes.new.found c.in_ok-ancestors.ancestors c.in_ok-ancestors.ensures c.in-None.is))
+    (ascended_of (defs_of c.in_ok-defs.defs) c.args.found c.judge_supertypes.new.found c.in_ok-ancestors.ancestors c.in_ok-ancestors.ensures c.in-None.is))

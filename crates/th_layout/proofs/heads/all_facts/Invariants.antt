@@ -1,9 +1,0 @@
-use Rattle.std.proofs.Common.{◌≡◌, length}
-use Rattle.th_layout.specs.Known.{Done}
-use Rattle.th_layout.proofs.heads.all_facts.Given as goal
-
-abbrev pub invariant-loop-number : goal.invariant-loop-number
-invariant-loop-number l = record {
-  many : length l.all.items ≡ l.number;
-  done : Done l.rows l.all.items;
-}

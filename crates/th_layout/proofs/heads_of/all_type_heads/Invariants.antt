@@ -1,9 +1,0 @@
-use Rattle.std.proofs.Common.{◌≡◌, length}
-use Rattle.th_layout.specs.Given.{GivenTypes}
-use Rattle.th_layout.proofs.heads_of.all_type_heads.Given as goal
-
-abbrev pub invariant-loop-number : goal.invariant-loop-number
-invariant-loop-number l = record {
-  many : length l.all.items ≡ l.number;
-  done : GivenTypes l.types l.all.items;
-}

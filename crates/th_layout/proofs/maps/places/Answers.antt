@@ -1,5 +1,0 @@
-use Rattle.th_layout.proofs.Mapped.{index_end}
-use Rattle.th_layout.proofs.maps.places.Goals as goal
-
-pub returns : goal.returns
-returns c = λ q. index_end _ c.loop-k.k c.args.numbers.now q (c.loop-k.invariant q) c.loop-k-test.false

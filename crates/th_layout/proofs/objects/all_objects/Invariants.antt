@@ -1,9 +1,0 @@
-use Rattle.std.proofs.Common.{◌≡◌, length}
-use Rattle.th_layout.specs.Known.{Formed}
-use Rattle.th_layout.proofs.objects.all_objects.Given as goal
-
-abbrev pub invariant-loop-number : goal.invariant-loop-number
-invariant-loop-number l = record {
-  many : length l.all.items ≡ l.number;
-  done : Formed (record { types = l.types; classes = l.classes }) l.all.items;
-}

@@ -1,5 +1,0 @@
-use Rattle.th_layout.proofs.Viewing.{number_is}
-use Rattle.th_layout.proofs.seen_words.number_at.Goals as goal
-
-pub returns : goal.returns
-returns c = number_is c.args.types.now c.args.place _ c.requires

@@ -1,9 +1,0 @@
-use Rattle.std.proofs.Common.{◌≡◌, length}
-use Rattle.th_layout.specs.Known.{EachView}
-use Rattle.th_layout.proofs.seen_words.views_of.Given as goal
-
-abbrev pub invariant-loop-word : goal.invariant-loop-word
-invariant-loop-word l = record {
-  many : length l.all.items ≡ l.word;
-  done : EachView l.types l.seen l.all.items;
-}

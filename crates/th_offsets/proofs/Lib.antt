@@ -1,0 +1,12 @@
+pub mod Walked
+pub mod Spotting
+pub mod Summing
+pub mod Depths
+pub mod Tallies
+pub mod Mapped
+pub mod Sited
+pub mod Pushed
+pub mod Forming
+pub mod Seeing
+pub mod Heading
+pub mod Viewing

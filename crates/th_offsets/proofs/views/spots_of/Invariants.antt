@@ -1,0 +1,16 @@
+use Rattle.std.proofs.Common.{◌≡◌, ◌++◌, drop, false, ◌∷◌}
+use Rattle.th_views.specs.declared.Turn.TheVariants.{First}
+use Rattle.th_views.specs.Graph.{trees_by}
+use Rattle.th_offsets.specs.Walks.{walk_all}
+use Rattle.th_views.specs.Listed.{spots_in}
+use Rattle.th_views.specs.Rows.{tree_of, supers_in}
+use Rattle.std.specs.Prelude.{slice_get}
+use Rattle.th_offsets.proofs.views.spots_of.Given as goal
+
+abbrev pub invariant-loop-s : goal.invariant-loop-s
+invariant-loop-s l = record {
+  same : l.supers ≡ supers_in (slice_get l.rows l.number);
+  sofar : walk_all l.walk (trees_by (tree_of l.rows) (drop l.s-index l.supers)) ≡ walk_all (record { turn = First; span = 0; topped = false }) (trees_by (tree_of l.rows) l.supers);
+  list : l.list.items ++ spots_in l.walk.turn l.walk.span (trees_by (tree_of l.rows) (drop l.s-index l.supers))
+      ≡ record { name = l.number; word = 0 } ∷ spots_in First 0 (trees_by (tree_of l.rows) l.supers);
+}

@@ -1,0 +1,5 @@
+pub mod Walks
+pub mod Maps
+pub mod Counts
+pub mod Known
+pub mod Given
