@@ -1,0 +1,3 @@
+pub mod Listing
+pub mod Rowing
+pub mod Walking

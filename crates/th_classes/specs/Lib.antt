@@ -1,0 +1,4 @@
+pub mod Found
+pub mod Lists
+pub mod Numbers
+pub mod Rows

@@ -1,0 +1,4 @@
+pub mod Earliest
+pub mod Heads
+pub mod Words
+pub mod Laws

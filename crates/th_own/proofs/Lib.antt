@@ -1,0 +1,4 @@
+pub mod Mains
+pub mod Mapped
+pub mod Naming
+pub mod Owning

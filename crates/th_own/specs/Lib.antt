@@ -1,0 +1,5 @@
+pub mod Named
+pub mod Owned
+pub mod Judging
+pub mod Mains
+pub mod Naming
