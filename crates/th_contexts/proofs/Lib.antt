@@ -1,0 +1,4 @@
+pub mod Heads
+pub mod Interfaces
+pub mod Placing
+pub mod Methods

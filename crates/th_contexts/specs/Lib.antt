@@ -1,0 +1,4 @@
+pub mod BaseView
+pub mod Bases
+pub mod Heads
+pub mod Placing
