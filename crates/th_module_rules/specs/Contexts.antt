@@ -103,7 +103,7 @@ type_number None = None
 type_number (Some t) = head_of t
 
 abbrev pub base : ℕ → ClassInfo → List ℕ → Base
-base full c ms = record { full = full; of = c.of; inherits = type_number c.inherits; methods = ms }
+base full c ms = record { full = full; of = c.of; inherits = type_number c.inherits; methods = different ms }
 
 -- the first class of that full name
 abbrev pub base_at : List Base → ℕ → Option Base
