@@ -1,6 +1,9 @@
 -- The rules on the definitions of classes and routines in a module.
 use Rattle.std.specs.Prelude.{◌≡◌, ℕ, zero, suc, Bool, true, false, not, ◌&&◌, ◌⊎◌, List, map, length, Option, Some, None, is_some}
-use Rattle.th_type.specs.Lists.{is_in}
+use Rattle.th_tree.specs.Trees.{SigSyn, MethodSyn, ClassSyn}
+use Rattle.th_type.specs.declared.place.Failure.{Failure}
+use Rattle.th_type.specs.Failures.{place, failure}
+use Rattle.th_type.specs.Lists.{IsIn, is_in}
 use Rattle.th_type.specs.Types.{TypeExpr, subst_ty}
 use Rattle.th_type.specs.Signatures.{Signature, subst_sig, find_sig}
 use Rattle.th_type.specs.Subtypes.{head_of, args_of}
@@ -23,12 +26,14 @@ SameHead (class_head c) (class_head d) = SameClass c d
 SameHead (routine_head r) (routine_head s) = r ≡ s
 SameHead _ _ = ⊥
 
--- the classes above a class, each with the arguments at which it is inherited, through at most k of them
+-- a class inherits d as this type
+abbrev pub InheritsAs : Context → ClassInfo → TypeExpr → ClassInfo → Type 0
+InheritsAs C c t d = (c.inherits ≡ Some t) × (class_named C.items (head_of t) ≡ Some d)
+
+-- d is the class that c inherits, or stands k classes above that one; it is inherited with these arguments
 abbrev pub AboveIn : ℕ → Context → ClassInfo → List TypeExpr → ClassInfo → Type 0
-AboveIn zero C c args d = ⊥
-AboveIn (suc k) C c args d =
-    (t : TypeExpr) × (e : ClassInfo) × (c.inherits ≡ Some t) × (class_named C.items (head_of t) ≡ Some e)
-    × (((e ≡ d) × (args ≡ args_of t)) ⊎ ((us : List TypeExpr) × AboveIn k C e us d × (args ≡ map (subst_ty (args_of t)) us)))
+AboveIn zero C c args d = (t : TypeExpr) × InheritsAs C c t d × (args ≡ args_of t)
+AboveIn (suc k) C c args d = (us : List TypeExpr) × (e : ClassInfo) × (t : TypeExpr) × AboveIn k C c us e × InheritsAs C e t d × (args ≡ map (subst_ty us) (args_of t))
 
 -- d is a class above c, inherited with these arguments
 abbrev pub Above : Context → ClassInfo → List TypeExpr → ClassInfo → Type 0
@@ -85,3 +90,10 @@ pub record OwnFits (C : Context) (c : ClassInfo) (s : Signature) : Type 0 where
   pub hidden : (t : Signature) → OverriddenHidden C c s.method t → ExactlyConforms s t
   pub results : (r : Signature) → class_sig C c s.method ≡ Some r → ((n : ℕ) (t : Signature) → Overridden C c s.method n t → ResultFits C.types r.gives t.gives)
       × ((t : Signature) → OverriddenHidden C c s.method t → ResultFits C.types r.gives t.gives)
+
+-- f is a failure of what a class defines and inherits: a method of its type that is neither defined nor inherited as fits; or
+-- an own method that does not fit what it overrides, where the methods' signatures are these
+abbrev pub OverridesFail : Context → (ℕ → Bool) → (SigSyn → Signature) → ClassInfo → ClassSyn → Failure → Type 0
+OverridesFail C has_body sig c s f =
+    (Lacks C has_body c (map (λ m. m.sig.name.name) s.methods) × (f ≡ failure 13 (place C.text s.head.name.at)))
+    ⊎ ((m : MethodSyn) × IsIn m s.methods × (¬ OwnFits C c (sig m.sig)) × (f ≡ failure 14 (place C.text m.sig.name.at)))

@@ -39,6 +39,10 @@ inherited_type items v (Some n) = class_type (class_meant (meaning items v n.ite
 abbrev pub bare_sig : ℕ → Signature
 bare_sig m = record { method = m; iterator = false; formals = no_ty; gives = None; signals = [] }
 
+-- the signature, or a bare one where it does not resolve
+abbrev pub sig_or_bare : Items → Visible → SigSyn → Signature
+sig_or_bare items v s = unwrap_or (signature_of items v s) (bare_sig s.name.name)
+
 -- a clause, where its parameter and its parts are there
 abbrev pub constraint : ℕ → Option ℕ → Option Parts → List Constraint
 constraint m None ps = []
@@ -103,7 +107,7 @@ type_number None = None
 type_number (Some t) = head_of t
 
 abbrev pub base : ℕ → ClassInfo → List ℕ → Base
-base full c ms = record { full = full; of = c.of; inherits = type_number c.inherits; methods = ms }
+base full c ms = record { full = full; of = c.of; inherits = type_number c.inherits; methods = different ms }
 
 -- the first class of that full name
 abbrev pub base_at : List Base → ℕ → Option Base

@@ -10,3 +10,4 @@ pub mod Units
 pub mod Limits
 pub mod Laws
 pub mod Texts
+pub mod Refusals

@@ -1,5 +1,5 @@
 -- The failures in modules and interfaces that are judged where no rule on names fails outside bodies and initializers.
-use Rattle.std.specs.Prelude.{◌≡◌, ℕ, zero, suc, ◌+◌, Bool, true, false, not, ◌&&◌, ◌||◌, ◌⊎◌, List, [], ◌∷◌, ◌++◌, map, length, Option, Some, None, is_some, unwrap_or, if◌then◌else◌}
+use Rattle.std.specs.Prelude.{◌≡◌, ℕ, zero, suc, ◌+◌, Bool, true, false, not, ◌&&◌, ◌||◌, ◌⊎◌, List, [], ◌∷◌, ◌++◌, map, length, Option, Some, None, is_some, if◌then◌else◌}
 use Rattle.th_tree.specs.declared.tree.Ident.{Ident}
 use Rattle.th_tree.specs.Trees.{NamedSyn, RoutineSyn, MethodSyn, BodySyn, SigSyn, ClassSyn, InterfaceSyn, ModuleItemSyn, module_class, module_routine, ModuleSyn}
 use Rattle.th_type.specs.declared.place.Failure.{Failure}
@@ -11,15 +11,14 @@ use Rattle.th_type.specs.Declarations.{DeclaredType}
 use Rattle.th_type.specs.Methods.{method_at}
 use Rattle.th_hier.specs.Naming.{Items, Visible}
 use Rattle.th_hier.specs.Hierarchies.{TypeHierarchy}
-use Rattle.th_hier.specs.Heads.{signature_of}
 use Rattle.th_hier.specs.Texts.{within}
 use Rattle.th_rules.specs.Context.{Binding, ClassInfo, Head, class_head, routine_head, Item, Context, find_item}
 use Rattle.th_rules.specs.Classes.{class_at}
 use Rattle.th_rules.specs.Supplies.{supplies_of}
 use Rattle.th_stmt_rules.specs.Units.{unit_fails, ends_lawfully}
 use Rattle.th_module_rules.specs.Own.{all_items, implemented, module_visible, own_full}
-use Rattle.th_module_rules.specs.Contexts.{Base, bare_sig, base_at, bindings, interface_items, item_bases, module_items, module_item_name, own_bases, routine_info, type_number, unit_context}
-use Rattle.th_module_rules.specs.ClassRules.{SameHead, Lacks, OwnFits}
+use Rattle.th_module_rules.specs.Contexts.{Base, base_at, bindings, interface_items, item_bases, module_items, module_item_name, own_bases, routine_info, sig_or_bare, type_number, unit_context}
+use Rattle.th_module_rules.specs.ClassRules.{SameHead, OverridesFail}
 use Rattle.th_module_rules.specs.Initializers.{Inherited, init_fails}
 
 -- the class that a class inherits, with arguments
@@ -84,7 +83,7 @@ routine_fails J r =
 
 -- the signature of a method in a class with these type parameters
 abbrev pub method_sig : Judged → List Ident → SigSyn → Signature
-method_sig J ps s = unwrap_or (signature_of (found_in J) (seen_in J ps) s) (bare_sig s.name.name)
+method_sig J ps s = sig_or_bare (found_in J) (seen_in J ps) s
 
 -- the failures in a method: it is marked as hidden where the class's type does not have it, and in its body
 abbrev pub method_fails : Judged → List Ident → ClassInfo → ℕ → MethodSyn → List Failure
@@ -119,14 +118,10 @@ body_up (suc k) D bs own (Some n) m = base_has_body D own (body_up k D bs own) (
 abbrev pub has_body_above : Judged → ClassInfo → ℕ → Bool
 has_body_above J c m = body_up (length J.bases) J.hierarchy.types J.bases J.own (type_number c.inherits) m
 
--- f is a failure in the definition of a class: one that lists show; a method of its type that is neither defined nor
--- inherited as fits; or an own method that does not fit what it overrides
+-- f is a failure in the definition of a class: one that lists show, or one of what it defines and inherits
 abbrev pub ClassFails : Judged → ClassInfo → ℕ → ClassSyn → Failure → Type 0
 ClassFails J c full s f =
-    let C = context_in J s.head.params c.clauses c.init None in
-    IsIn f (class_lists_fail J c full s)
-    ⊎ (Lacks C (has_body_above J c) c (map (λ m. m.sig.name.name) s.methods) × (f ≡ failure 13 (place J.text s.head.name.at)))
-    ⊎ ((m : MethodSyn) × IsIn m s.methods × (¬ OwnFits C c (method_sig J s.head.params m.sig)) × (f ≡ failure 14 (place J.text m.sig.name.at)))
+    IsIn f (class_lists_fail J c full s) ⊎ OverridesFail (context_in J s.head.params c.clauses c.init None) (has_body_above J c) (method_sig J s.head.params) c s f
 
 -- the definition of an item with that name differs from its declaration in the implemented interface
 abbrev pub Redefined : Judged → ℕ → Head → Type 0

@@ -1,5 +1,5 @@
 -- The texts of a program: what is read of them, and that they are accepted.
-use Rattle.std.specs.Prelude.{◌≡◌, ℕ, ◌+◌, ◌⊎◌, List, [], ◌∷◌, ◌++◌, map, slice_get, Option, Some, None}
+use Rattle.std.specs.Prelude.{◌≡◌, ℕ, ◌+◌, ◌⊎◌, true, List, [], ◌∷◌, ◌++◌, map, slice_get, Option, Some, None, codes}
 use Rattle.th_tree.specs.declared.tree.Ident.{Ident}
 use Rattle.th_tree.specs.declared.tokens.Token.{Token}
 use Rattle.th_tree.specs.declared.tokens.TokenKind.TheVariants as kinds
@@ -8,9 +8,13 @@ use Rattle.th_tree.specs.Cut.{Cut}
 use Rattle.th_tree.specs.Tokens.{kind_of}
 use Rattle.th_tree.specs.Spans.{bytes_of}
 use Rattle.th_tree.specs.Numbered.{lexemes_of}
-use Rattle.th_tree.specs.Trees.{InterfaceSyn, ModuleSyn}
+use Rattle.th_tree.specs.Names.{is_there}
+use Rattle.th_tree.specs.Trees.{InterfaceItemSyn, InterfaceSyn, ModuleSyn}
 use Rattle.th_tree.specs.Declarations.{WholeModule, WholeInterface}
 use Rattle.th_type.specs.Lists.{IsIn}
+use Rattle.th_hier.specs.Numbering.{full_name, name_bytes}
+use Rattle.th_hier.specs.Spots.{item_name}
+use Rattle.th_module_rules.specs.Own.{head_items}
 use Rattle.th_module_rules.specs.Stages.{Numbered, numbered, Program, RulesHold}
 
 -- the tokens of a text
@@ -65,8 +69,25 @@ used_by_modules (m ∷ ms) = used_of_option m.text m.tree.implements ++ used_nam
 abbrev pub AllGiven : Program → Type 0
 AllGiven p = (u : UsedName) → IsIn u (used_by_interfaces p.interfaces ++ used_by_modules p.modules) → IsIn u.name.name (interface_names p.interfaces)
 
+-- the table has the names under which the private items of a module stand, and the number of the module's own items
+abbrev pub HasOwnNames : List (List ℕ) → ModuleSyn → Type 0
+HasOwnNames table m =
+    (is_there table (name_bytes table m.name.name ++ 47 ∷ []) ≡ true)
+    × ((i : InterfaceItemSyn) → IsIn i (head_items m) → is_there table (name_bytes table m.name.name ++ 47 ∷ name_bytes table (item_name i).name) ≡ true)
+
+-- the table has the full names of the items of an interface
+abbrev pub HasItemNames : List (List ℕ) → InterfaceSyn → Type 0
+HasItemNames table f = (i : InterfaceItemSyn) → IsIn i f.items → is_there table (full_name table f.name.name (item_name i).name) ≡ true
+
+-- the table of a program has the full names of all items and the name `main`, so that each has a number of its own
+pub record HasNames (p : Program) : Type 0 where
+  pub main : is_there p.table (codes "main") ≡ true
+  pub interfaces : (i : Numbered InterfaceSyn) → IsIn i p.interfaces → HasItemNames p.table i.tree
+  pub modules : (m : Numbered ModuleSyn) → IsIn m p.modules → HasOwnNames p.table m.tree
+
 -- texts are a program all of whose names are given and in which every rule holds
 pub record Lawful (texts : List (List ℕ)) (p : Program) : Type 0 where
   pub read : AreRead p.table 0 texts p.interfaces p.modules
+  pub named : HasNames p
   pub given : AllGiven p
   pub rules : RulesHold p

@@ -2,3 +2,4 @@ pub mod Mains
 pub mod Mapped
 pub mod Naming
 pub mod Owning
+pub mod There

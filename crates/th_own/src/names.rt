@@ -4,7 +4,7 @@ ghost use Rattle.th_tree.specs.DeclView.{module_item_of, module_of};
 ghost use Rattle.th_type.specs.Failures.{lowest};
 ghost use Rattle.th_hier.specs.Spots.{item_name, item_spots, repeats, spot_at};
 ghost use Rattle.th_module_rules.specs.Own.{head_item, module_names_fail};
-ghost use Rattle.th_own.specs.Named.{HasOwnNames};
+ghost use Rattle.th_module_rules.specs.Texts.{HasOwnNames};
 
 use crate::heads::{judge_fields, judge_heads};
 use crate::kinds::{item_name, judge_kinds};

@@ -6,8 +6,9 @@ ghost use Rattle.th_hier.specs.Naming.{item_in};
 ghost use Rattle.th_hier.specs.Spots.{item_name};
 ghost use Rattle.th_hier.specs.Numbering.{item_sort, name_bytes};
 ghost use Rattle.th_module_rules.specs.Own.{full_or, head_item, head_items, implemented, own_items, own_scope};
+ghost use Rattle.th_module_rules.specs.Texts.{HasOwnNames};
 ghost use Rattle.th_heads.specs.Adding.{with_own};
-ghost use Rattle.th_own.specs.Named.{AllThere, HasOwnNames};
+ghost use Rattle.th_own.specs.Named.{AllThere};
 ghost use Rattle.th_own.specs.Owned.{own_entry, own_key, owned, visible_under};
 
 use crate::kinds::item_name;

@@ -1,0 +1,9 @@
+pub mod Chains
+pub mod Conforms
+pub mod Deciding
+pub mod Equals
+pub mod Lackings
+pub mod Leasts
+pub mod Numbered
+pub mod Overrides
+pub mod Reaching

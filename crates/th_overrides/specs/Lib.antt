@@ -1,0 +1,9 @@
+pub mod Chain
+pub mod AncestorView
+pub mod Reached
+pub mod Conforming
+pub mod Overriding
+pub mod Bodies
+pub mod Lacking
+pub mod Judging
+pub mod Same
