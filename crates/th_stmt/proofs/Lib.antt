@@ -1,0 +1,4 @@
+pub mod Onto
+pub mod Merging
+pub mod Refused
+pub mod Walking
