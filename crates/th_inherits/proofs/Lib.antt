@@ -1,0 +1,9 @@
+pub mod Padding
+pub mod Occurring
+pub mod Raising
+pub mod Spreading
+pub mod Reaching
+pub mod Placing
+pub mod Looping
+pub mod Passing
+pub mod Judging
