@@ -1,0 +1,3 @@
+pub mod Supertypes
+pub mod Tabling
+pub mod Weighing

@@ -1,0 +1,4 @@
+pub mod Open
+pub mod Sizes
+pub mod Supers
+pub mod Types
