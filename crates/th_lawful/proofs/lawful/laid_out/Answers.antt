@@ -1,0 +1,6 @@
+use Rattle.th_views.specs.Shapes.{shapes_of}
+use Rattle.th_lawful.proofs.Judging.{of_layout}
+use Rattle.th_lawful.proofs.lawful.laid_out.Goals as goal
+
+pub tables-requires : goal.tables-requires
+tables-requires c = of_layout c.args.hierarchy.now.types (shapes_of c.args.classes.now) _ c.in_ok-layout.ensures.0
