@@ -1,13 +1,18 @@
 -- Many steps of a run.
 use Rattle.std.proofs.Common.{◌≡◌, refl, sym, ap, ◌∙◌, subst, ℕ, suc, ◌+◌, List, [], ◌++◌, append-nil, Option, Some, None, option_map}
 use Rattle.th_world.specs.Event.{Prefix}
+use denote.Ref.{Bor}
+use Rattle.th_meaning.specs.declared.stmt.CoreBody.{CoreBody}
+use Rattle.th_meaning.specs.Trees.{ExprTree, BodyTree}
+use Rattle.th_meaning.specs.View.{body_of}
 use Rattle.th_meaning.specs.Program.{Program}
 use Rattle.th_meaning.specs.Run.{start}
-use Rattle.th_steps.specs.Machine.{Machine, Stopped, step, steps}
+use Rattle.th_steps.specs.Machine.{Machine, At, Stopped, now_eval, now_body, step, steps}
 use Rattle.th_meaning.specs.Meaning.{Value}
 use Rattle.th_control.specs.declared.control.Now.{Now}
-use Rattle.th_control.specs.declared.control.Now.TheVariants.{Value as NowValue}
-use Rattle.th_control.specs.Config.{state_of}
+use Rattle.th_control.specs.declared.control.Control.{Control}
+use Rattle.th_control.specs.declared.control.Now.TheVariants.{Value as NowValue, Body as NowBody}
+use Rattle.th_control.specs.Config.{now_of, loop_of, rest_of, frames_of, state_of}
 use Rattle.th_control.specs.Acts.{the_loop, the_rest}
 use Rattle.th_store.specs.Alike.{Alike}
 use Rattle.th_traces.specs.Traces.{trace_at}
@@ -17,9 +22,11 @@ use Rattle.th_acts.specs.declared.runner.Over.{Over as CodeOver}
 use Rattle.th_acts.specs.declared.runner.Next.{Next}
 use Rattle.th_acts.specs.declared.runner.Next.TheVariants.{Go, Over}
 use Rattle.th_acts.specs.Stands.{Told, Leads, LeadsOn}
+use Rattle.th_quick.specs.Quick.{IsQuick}
+use Rattle.th_quick.specs.Statements.{BodyGoes}
 use Rattle.th_acts.specs.Parts.{Partly}
+use Rattle.th_acts.proofs.Acts.{stands_same}
 use Rattle.th_interpret.specs.Begins.{Starts, Begins}
-use Rattle.th_interpret.specs.Quickly.{ComesQuickly}
 
 -- the machine comes to where the run goes on, or is over
 abbrev pub Reaches : Told → Runner → (left now : Option (List ℕ)) → Next → Machine → Type 0
@@ -36,12 +43,36 @@ some_more e old new left now left1 now1 at next m h leads =
     let s : (n : ℕ) × Leads e new left1 now1 next (steps e.program n (steps e.program h.0 m)) = leads (steps e.program h.0 m) h.1 in
     (h.0 + s.0, subst (Leads e new left1 now1 next) (sym (steps_more e.program h.0 s.0 m)) s.1)
 
--- the steps to the value of a short expression
-pub quick_leads : (e : Told) (r : Runner) (left now : Option (List ℕ)) (at : Now) (v : Value) (m : Machine) → ComesQuickly r.control.frame at v → LeadsOn e r left now at m
-    → (n : ℕ) × Leads e r left now (Go (NowValue v)) (steps e.program n m)
-quick_leads e r left now at v m quickly from =
-    let q = quickly e.program (the_loop r.control) (the_rest r.control) (state_of r.control from.world) refl in
-    (q.0, record { world = from.world; is = ap (steps e.program q.0) from.is ∙ q.1; stands = from.stands })
+module _ (e : Told) (r : Runner) (left now : Option (List ℕ)) (m : Machine) where
+  -- the steps to the value of a short expression
+  pub value_leads : (at : Now) (expr : ExprTree) (v : Value) → now_of at ≡ now_eval expr → IsQuick r.control.frame expr v → LeadsOn e r left now at m
+      → (n : ℕ) × LeadsOn e r left now (NowValue v) (steps e.program n m)
+  value_leads at expr v same quickly from =
+      let q = quickly e.program (the_loop r.control) (the_rest r.control) (state_of r.control from.world) refl in (
+        q.0,
+        record {
+          world = from.world;
+          is = ap (steps e.program q.0) (from.is ∙ ap (λ x. At x (the_loop r.control) (the_rest r.control) (state_of r.control from.world)) same) ∙ q.1;
+          stands = from.stands;
+        },
+      )
+
+  -- the steps over a statement that binds a local to one
+  pub body_leads : (at : Now) (c : Control) (body : BodyTree) (others : Bor CoreBody) → now_of at ≡ now_body body → BodyGoes r.control.frame body c.frame (body_of others.now) → c.rest ≡ r.control.rest
+      → c.homes ≡ r.control.homes → LeadsOn e r left now at m → (n : ℕ) × LeadsOn e (record r { control = c }) left now (NowBody others) (steps e.program n m)
+  body_leads at c body others same goes rest homes from =
+      let q = goes e.program (the_loop r.control) (the_rest r.control) (state_of r.control from.world) refl in (
+        q.0,
+        record {
+          world = from.world;
+          is =
+              ap (steps e.program q.0) (from.is ∙ ap (λ x. At x (the_loop r.control) (the_rest r.control) (state_of r.control from.world)) same)
+              ∙ q.1
+              ∙ ap (λ hs. At (now_body (body_of others.now)) (loop_of hs) (rest_of (loop_of hs) r.control.rest) (record { frame = c.frame; homes = frames_of hs; world = from.world })) (sym homes)
+              ∙ ap (λ ks. At (now_body (body_of others.now)) (loop_of c.homes) (rest_of (loop_of c.homes) ks) (record { frame = c.frame; homes = frames_of c.homes; world = from.world })) (sym rest);
+          stands = stands_same e r (record r { control = c }) left now from.world from.stands refl refl refl;
+        },
+      )
 
 -- a step that was cut off
 pub cut_off : (e : Told) (old : Runner) (left now left1 now1 : Option (List ℕ)) (at : Now) (m : Machine) → Reaches e old left now (Go at) m

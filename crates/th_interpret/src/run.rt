@@ -1,5 +1,5 @@
 //! Runs of whole programs.
-ghost use Rattle.std.specs.Prelude.{◌≡◌, ℕ, List, Option, IfOk, OnErr, OnOk, IfSome};
+ghost use Rattle.std.specs.Prelude.{◌≡◌, ℕ, List, Option, IfOk, OnErr, OnOk, IfSome, IfNone};
 ghost use Rattle.th_meaning.specs.View.{program_of};
 ghost use Rattle.th_meaning.specs.Program.{Program, main_of};
 ghost use Rattle.th_meaning.specs.Run.{source_run, start as starts};
@@ -9,7 +9,6 @@ ghost use Rattle.th_units.specs.Units.{IsTable};
 ghost use Rattle.th_acts.specs.First.{FindsFirst};
 ghost use Rattle.th_acts.specs.Parts.{Partly};
 ghost use Rattle.th_interpret.specs.Begins.{Starts, Begins};
-ghost use Rattle.th_interpret.specs.Quickly.{ComesQuickly};
 ghost use Rattle.th_interpret.specs.Answers.{Answers, Shown, ShownPart, end_of as the_end_of};
 
 use crate::main_unit::main_unit;
@@ -17,9 +16,9 @@ use bumpalo::Bump;
 use std::alloc::{AllocError, Global};
 use th_acts::{InterpretError, Next, Over, Runner, Tables};
 use th_classes::ClassTable;
-use th_control::{Control, Frame, Now, RunValue, Stack};
+use th_control::{Control, Frame, Now, Stack};
 use th_meaning::CoreModule;
-use th_quick::quick;
+use th_quick::{quick, quick_stmt};
 use th_store::Store;
 use th_tree::{Name, NumberList};
 use th_units::{UnitRow, UnitTable};
@@ -42,17 +41,26 @@ pub struct Run {
     pub entered: NumberList,
 }
 
-/// The value of a short expression that is next, where it is found at once.
-fn quick_value<'a>(run: &Runner<'a>, now: &Now<'a>) -> Option<RunValue<'a>>
-    ensures { IfSome result (λ value. ComesQuickly run.now.control.frame now.now value) }
+/// Goes on at once where what is next is a short expression, or a statement that binds a local to one; None where it is
+/// another one, which is left undone.
+fn quick_next<'a>(run: &mut Runner<'a>, now: &Now<'a>) -> Option<Now<'a>>
+    ensures some { IfSome result (λ next. (e : Told) (left put : Option (List ℕ)) (m : Machine) → LeadsOn e run.old left put now.now m → (n : ℕ) × LeadsOn e run.new left put next (steps e.program n m)) }
+    ensures none { IfNone result (run.new ≡ run.old) }
 {
     match now {
-        Now::Eval(expr) => quick(&run.control.frame, expr),
+        Now::Eval(expr) => match quick(&run.control.frame, expr) {
+            None => None,
+            Some(value) => Some(Now::Value(value)),
+        },
+        Now::Body(body) => match quick_stmt(&mut run.control, body) {
+            None => None,
+            Some(others) => Some(Now::Body(others)),
+        },
         _ => None,
     }
 }
 
-/// A step, or as many as lead to the value of a short expression.
+/// A step, or as many as are done at once.
 fn advance<'a, S: Source, K: Sink>(
     run: &mut Runner<'a>,
     now: Now<'a>,
@@ -62,8 +70,8 @@ fn advance<'a, S: Source, K: Sink>(
     ensures next { IfOk result (λ next. (e : Told) (m : Machine) → LeadsOn e run.old (S.left input.old) (K.put_bytes output.old) now.entry m → (n : ℕ) × Leads e run.new (S.left input.new) (K.put_bytes output.new) next (steps e.program n m)) }
     ensures part { OnErr result ((e : Told) (m : Machine) → LeadsOn e run.old (S.left input.old) (K.put_bytes output.old) now.entry m → Partly e (S.left input.new) (K.put_bytes output.new) (step e.program m)) }
 {
-    match quick_value(run, &now) {
-        Some(value) => Ok(Next::Go(Now::Value(value))),
+    match quick_next(run, &now) {
+        Some(next) => Ok(Next::Go(next)),
         None => run.step(now, input, output),
     }
 }

@@ -1,15 +1,16 @@
 -- The machine comes to the values of short expressions.
-use Rattle.std.proofs.Common.{◌≡◌, refl, sym, ap, ◌∙◌, subst, ℕ, ℤ, pos, Bool, Option, Some, None, IfSome}
+use Rattle.std.proofs.Common.{◌≡◌, refl, sym, ap, ◌∙◌, subst, ℕ, ℤ, pos, Bool, set, Option, Some, None, IfSome}
 use Rattle.th_meaning.specs.declared.expr.ArithOp.{ArithOp}
 use Rattle.th_meaning.specs.declared.expr.CompareOp.{CompareOp}
-use Rattle.th_meaning.specs.Trees.{ExprTree, number_expr, truth_expr, local_expr, arith_expr, compare_expr}
+use Rattle.th_meaning.specs.Trees.{ExprTree, StmtTree, BodyTree, number_expr, truth_expr, local_expr, arith_expr, compare_expr, more_stmts}
 use Rattle.th_meaning.specs.Program.{Program}
 use Rattle.th_meaning.specs.World.{World, Did, Unset}
-use Rattle.th_meaning.specs.Meaning.{Value, Int, Truth, Frame, State, Gives, with_some, local_value, act_as, arith, compare}
-use Rattle.th_steps.specs.Machine.{Loop, Rest, Machine, At, now_eval, now_value, then_right, then_binary, of_arith, of_compare, on_value}
+use Rattle.th_meaning.specs.Meaning.{Value, Int, Truth, Frame, State, Gives, with_some, local_value, set_local, act_as, arith, compare}
+use Rattle.th_steps.specs.Machine.{Loop, Rest, Machine, At, now_eval, now_value, now_body, then_right, then_binary, then_sink, then_stmts, to_local, of_arith, of_compare, on_value, steps}
 use Rattle.th_steps.proofs.Follow.{Comes, here, first, on}
 use Rattle.th_control.specs.Values.{bound_at}
 use Rattle.th_quick.specs.Quick.{IsQuick, IsSum, IsTest}
+use Rattle.th_quick.specs.Statements.{Binds, BodyGoes}
 
 pub quick_number : (f : Frame) (n : ℕ) → IsQuick f (number_expr n) (Int (pos n))
 quick_number f n p lp k st h = (1, refl)
@@ -61,3 +62,19 @@ quick_test f op a b x y v qa qb test p lp k st h =
 pub if_some_map : {A : Type 0} {P Q : A → Type 0} → (o : Option A) → ((a : A) → P a → Q a) → IfSome o P → IfSome o Q
 if_some_map None f h = tt
 if_some_map (Some a) f h = f a h
+
+-- a statement that binds a local
+pub binds_quickly : (f : Frame) (s : StmtTree) (others : BodyTree) (x : ℕ) (e : ExprTree) (v : Value) → Binds s x e → IsQuick f e v
+    → BodyGoes f (more_stmts s others) (record { receiver = f.receiver; locals = set f.locals x (Some v) }) others
+binds_quickly f s others x e v binds q p lp k st h =
+    let c : Comes p (At (now_body (more_stmts s others)) lp k st) (At (now_body others) lp k (set_local x v st)) =
+    first (first (on (same_comes p _ (At (now_eval e) lp (then_sink (to_local x) (then_stmts others k)) st) (binds p lp (then_stmts others k) st))
+    (on (comes_by f e v q p lp (then_sink (to_local x) (then_stmts others k)) st h) (first (first here))))) in
+    (c.count, c.is ∙ ap (λ g. At (now_body others) lp k (record st { frame = record { receiver = g.receiver; locals = set g.locals x (Some v) } })) h)
+
+-- the same in a control
+pub binds_in : (f g : Frame) (b : BodyTree) (s : StmtTree) (others : BodyTree) (x : ℕ) (e : ExprTree) (v : Value) → b ≡ more_stmts s others → Binds s x e → IsQuick f e v
+    → g ≡ record { receiver = f.receiver; locals = set f.locals x (Some v) } → BodyGoes f b g others
+binds_in f g b s others x e v is binds q bound p lp k st h =
+    let c = binds_quickly f s others x e v binds q p lp k st h in
+    (c.0, ap (λ t. steps p c.0 (At (now_body t) lp k st)) is ∙ c.1 ∙ ap (λ y. At (now_body others) lp k (record st { frame = y })) (sym bound))

@@ -1,1 +1,2 @@
 pub mod Quick
+pub mod Statements

@@ -1,7 +1,10 @@
-//! Values that a run finds without waiting for one: those of short expressions of numbers, truth values and locals.
+//! What a run does without waiting for a value: short expressions of numbers, truth values and locals, and statements that
+//! bind a local to one.
 #![tactic(auto)]
 
 mod operators;
+mod statements;
 mod values;
 
+pub use statements::quick_stmt;
 pub use values::quick;
