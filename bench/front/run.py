@@ -11,15 +11,16 @@ as long as half of it.
 """
 import os
 import pathlib
-import subprocess
 import sys
 import tempfile
+
+sys.path.insert(0, str(pathlib.Path(__file__).resolve().parents[1]))
+from measure import used
 
 MIB = 1 << 20
 SIZES = [MIB, 2 * MIB, 4 * MIB]
 MOST_BYTES = 200
 MOST_RATIO = 3.0
-RUNS = 3
 
 CODE = """routine total%d(l: list$seq[shapes$shape], most: int) returns (int)
   var s: int := 0; # the sum so far
@@ -55,19 +56,6 @@ def write(file, shape, size):
             length += out.write(part % count if "%d" in part else part)
             count += 1
         return length + out.write(behind)
-
-
-def used(program, form, file):
-    """The least seconds of processor time of some runs, and the greatest resident memory in bytes."""
-    seconds, memory = [], 0
-    for _ in range(RUNS):
-        process = subprocess.Popen([program, form, file], stdout=subprocess.DEVNULL)
-        _, status, usage = os.wait4(process.pid, 0)
-        if status != 0:
-            sys.exit(f"{form} {file}: status {os.waitstatus_to_exitcode(status)}")
-        seconds.append(usage.ru_utime + usage.ru_stime)
-        memory = max(memory, usage.ru_maxrss * 1024)
-    return min(seconds), memory
 
 
 def main():

@@ -8,28 +8,15 @@ each count of classes over half as many types, both in chains of eight, the scri
 some runs, the time beside that of half the classes, and the greatest resident memory. It ends with status 1 where 1,000
 classes over 500 types take two seconds or more, or one count takes more than three times as long as half of it.
 """
-import os
 import pathlib
-import subprocess
 import sys
+
+sys.path.insert(0, str(pathlib.Path(__file__).resolve().parents[1]))
+from measure import used
 
 COUNTS = [1000, 2000, 4000, 8000]
 MOST_SECONDS = 2.0
 MOST_RATIO = 3.0
-RUNS = 3
-
-
-def used(program, count):
-    """The least seconds of processor time of some runs, and the greatest resident memory in bytes."""
-    seconds, memory = [], 0
-    for _ in range(RUNS):
-        process = subprocess.Popen([program, str(count // 2), str(count)], stdout=subprocess.DEVNULL)
-        _, status, usage = os.wait4(process.pid, 0)
-        if status != 0:
-            sys.exit(f"{count} classes: status {os.waitstatus_to_exitcode(status)}")
-        seconds.append(usage.ru_utime + usage.ru_stime)
-        memory = max(memory, usage.ru_maxrss * 1024)
-    return min(seconds), memory
 
 
 def main():
@@ -39,9 +26,9 @@ def main():
     before = None
     print("classes   seconds   ratio   memory MiB")
     for count in COUNTS:
-        seconds, memory = used(program, count)
+        seconds, memory = used(program, str(count // 2), str(count))
         if before and seconds / before > MOST_RATIO:  # perhaps the machine was busy
-            seconds = min(seconds, used(program, count)[0])
+            seconds = min(seconds, used(program, str(count // 2), str(count))[0])
         ratio = seconds / before if before else None
         print(f"{count:7} {seconds:9.3f} {ratio or 0:7.2f} {memory / (1 << 20):12.1f}")
         if count == COUNTS[0] and seconds >= MOST_SECONDS:

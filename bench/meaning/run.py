@@ -7,29 +7,21 @@ PROGRAM is crates/meaning_bench/out/meaning_bench, where nothing is given (`rt r
 prints the simple statements a second, by processor time, of a loop of two statements. It ends with status 1 where these are
 fewer than 5 million.
 """
-import os
 import pathlib
-import subprocess
 import sys
+
+sys.path.insert(0, str(pathlib.Path(__file__).resolve().parents[1]))
+from measure import used
 
 COUNT = 5_000_000
 LEAST = 5_000_000
-RUNS = 3
-
-
-def seconds(program, count):
-    """The processor time of a run."""
-    before = os.times()
-    subprocess.run([program, str(count)], stdout=subprocess.DEVNULL, check=True)
-    after = os.times()
-    return after.children_user + after.children_system - before.children_user - before.children_system
 
 
 def main():
     """Prints the rate, and gives the status."""
     top = pathlib.Path(__file__).resolve().parents[2]
     program = sys.argv[1] if len(sys.argv) > 1 else top / "crates/meaning_bench/out/meaning_bench"
-    took = min(seconds(program, COUNT) for _ in range(RUNS))
+    took, _ = used(str(program), str(COUNT))
     rate = 2 * COUNT / took
     print(f"{rate / 1e6:.1f} million simple statements a second")
     return 0 if rate >= LEAST else 1
