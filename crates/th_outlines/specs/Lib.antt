@@ -1,0 +1,4 @@
+pub mod Programs
+pub mod Placing
+pub mod Fulls
+pub mod Stages
