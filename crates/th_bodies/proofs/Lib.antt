@@ -1,0 +1,14 @@
+mod Resolved
+mod Inits
+mod Numbered
+mod Above
+mod Owned
+mod Made
+mod Paired
+mod Knowing
+mod Joining
+mod Along
+mod Stepping
+mod Outer
+mod Moving
+mod Thirds

@@ -1,0 +1,3 @@
+pub mod View
+pub mod Lowering
+pub mod Own
