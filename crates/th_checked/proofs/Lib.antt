@@ -1,0 +1,10 @@
+pub mod Apart
+pub mod Checking
+pub mod Making
+pub mod Named
+pub mod Noting
+pub mod Owning
+pub mod Pairing
+pub mod Reaching
+pub mod Texts
+pub mod Used

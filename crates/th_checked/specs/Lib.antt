@@ -1,0 +1,4 @@
+pub mod Checked
+pub mod Made
+pub mod Noting
+pub mod Reaching

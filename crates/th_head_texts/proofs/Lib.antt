@@ -1,0 +1,3 @@
+pub mod Spacing
+pub mod Heads
+pub mod Starts
