@@ -1,0 +1,31 @@
+//! The texts of a case.
+ghost use Rattle.std.specs.Prelude.{◌≡◌, ◌≤◌, ℕ, List, IsTrue, Some, length, map, slice_get};
+
+use crate::repeats::written_out;
+use anyhow::Result;
+use std::alloc::Global;
+
+/// The most bytes of a text.
+const MOST: usize = 2_097_152;
+
+/// The texts between which `|` stands.
+pub fn texts_of(alloc: Global, brief: &str) -> Result<Vec<Vec<u8>>> {
+    let mut texts = Vec::new(alloc);
+    for part in brief.split('|') {
+        let text = written_out(alloc, part)?;
+        texts.push(Vec::from_slice(alloc, text.as_bytes())?)?;
+    }
+    Ok(texts)
+}
+
+/// Whether each text is so short that it can be judged.
+pub fn are_short(texts: &[Vec<u8>]) -> bool
+    ensures { IsTrue result → (k : ℕ) (t : List ℕ) → slice_get (map (λ x. x.items) texts.now) k ≡ Some t → length t ≤ 2097152 }
+{
+    for text in texts {
+        if text.len() > MOST {
+            return false;
+        }
+    }
+    true
+}
