@@ -81,5 +81,5 @@ pub record Executes (first : Counted) (steps : ℕ) (put left : Option (List ℕ
 
 -- the region of a command that has one is lawful
 abbrev pub HasRegion : Command → Type 0
-HasRegion (Go out file) = Unit {0}
+HasRegion (Go out files) = Unit {0}
 HasRegion (Run file region steps) = IsRegion region

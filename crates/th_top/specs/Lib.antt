@@ -1,5 +1,6 @@
 pub mod Report
 pub mod Outside
+pub mod Lines
 pub mod Answers
 pub mod Complete
 pub mod Built

@@ -13,8 +13,10 @@ ghost use Rattle.th_top.specs.Verdict.{verdict_of};
 
 mod build;
 mod go;
+mod refusal;
 mod report;
 mod run;
+mod texts;
 mod verdict;
 
 use go::go;
@@ -43,7 +45,7 @@ fn carry_out<'a, F: Files, S: Source, K: Sink>(
         (verdict_of result) }
 {
     match command {
-        Command::Go { out, file } => go(alloc, out, file, files, input, output),
+        Command::Go { out, files: names } => go(alloc, out, names, files, input, output),
         Command::Run {
             file,
             region,
@@ -97,12 +99,12 @@ pub fn theta<F: Files, S: Source, K: Sink, E: Sink>(
     // Status 1 comes exactly where the words are no command.
     ensures command { (result ≡ 1) ↔ IsNoCommand (map string_bytes words.now) }
 
-    // A text that is built gives 0, or 9 for want of memory, where no count of faults rises.
+    // Texts that are accepted and built give 0, or 9 for want of memory, where no count of faults rises.
     ensures complete { CompleteFor (map string_bytes words.now)
         (outside (F.map files.old) (F.written files.old) (F.Files.faults files.old) (S.left input.old) (S.Source.faults input.old) (K.put_bytes output.old) (K.Sink.faults output.old))
         (outside (F.map files.new) (F.written files.new) (F.Files.faults files.new) (S.left input.new) (S.Source.faults input.new) (K.put_bytes output.new) (K.Sink.faults output.new)) result }
 
-    // A text that isn't built gives 3, or 9 for want of memory, where no count of faults rises.
+    // Texts that are not accepted or not built give 3, or 9 for want of memory, where no count of faults rises.
     ensures refused { RefusedFor (map string_bytes words.now)
         (outside (F.map files.old) (F.written files.old) (F.Files.faults files.old) (S.left input.old) (S.Source.faults input.old) (K.put_bytes output.old) (K.Sink.faults output.old))
         (outside (F.map files.new) (F.written files.new) (F.Files.faults files.new) (S.left input.new) (S.Source.faults input.new) (K.put_bytes output.new) (K.Sink.faults output.new)) result }

@@ -66,5 +66,5 @@ not_same a b other = not_true (bytes_eq a b) (λ is. other ((bytes_eq-Decides a 
   not_true false never = refl
 
 -- no command has another name
-pub other_name : (name : List ℕ) (words : List (List ℕ)) → (name ≡ codes "go" → ⊥) → (name ≡ codes "run" → ⊥) → command_words (name ∷ words) ≡ None
-other_name name words no_go no_run = rw (not_same name (codes "go") no_go, not_same name (codes "run") no_run) refl
+pub other_name : (name : List ℕ) (words : List (List ℕ)) → (name ≡ codes "go" → ⊥) → (name ≡ codes "headers" → ⊥) → (name ≡ codes "run" → ⊥) → command_words (name ∷ words) ≡ None
+other_name name words no_go no_headers no_run = rw (not_same name (codes "go") no_go, not_same name (codes "headers") no_headers, not_same name (codes "run") no_run) refl
