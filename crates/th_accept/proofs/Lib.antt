@@ -1,0 +1,4 @@
+pub mod Judging
+pub mod Counting
+pub mod Reading
+pub mod Accepting
