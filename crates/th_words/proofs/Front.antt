@@ -1,8 +1,9 @@
 -- The first of the words that are left.
-use Rattle.std.proofs.Common.{◌≡◌, ℕ, zero, suc, ◌+◌, ◌<◌, List, [], ◌∷◌, length, map, drop, get_or, refl, sym, ◌∙◌, ap, arith, add-one}
-use Rattle.std.specs.Prelude.{Option, Some, None, option_and_then}
+use Rattle.std.proofs.Common.{◌≡◌, ℕ, zero, suc, ◌+◌, ◌<◌, ◌≤◌, List, [], ◌∷◌, length, map, drop, get_or, refl, sym, ◌∙◌, ap, arith, add-one}
+use Rattle.std.specs.Prelude.{true, false, Option, Some, None, option_and_then}
 use Rattle.std.specs.List.{slice_get}
-use Rattle.th_words.specs.Reading.{with_word, read}
+use Rattle.th_words.specs.Words.{is_dashed}
+use Rattle.th_words.specs.Reading.{with_word, are_plain, read}
 use Rattle.th_words.specs.declared.options.Reading.{Reading}
 
 -- the first of those that are left stands at their index, and the others behind it
@@ -25,3 +26,17 @@ read_next all at reading next w is step = ap (λ (ws : List (List ℕ)). read ws
 -- a word is refused
 pub read_stop : (all : List (List ℕ)) (at : ℕ) (reading : Reading) (w : List ℕ) → drop at all ≡ w ∷ drop (at + 1) all → with_word reading.place reading at w ≡ None → None ≡ read (drop at all) at reading
 read_stop all at reading w is step = sym (ap (λ (ws : List (List ℕ)). read ws at reading) is ∙ ap (λ (o : Option Reading). option_and_then (read (drop (at + 1) all) (at + 1)) o) step)
+
+-- a word is looked at
+pub plain_next : (all : List (List ℕ)) (at : ℕ) (w : List ℕ) → drop at all ≡ w ∷ drop (at + 1) all → is_dashed w ≡ false → are_plain (drop at all) ≡ are_plain (drop (at + 1) all)
+plain_next all at w is plain = ap are_plain is ∙ rw plain refl
+
+pub plain_stop : (all : List (List ℕ)) (at : ℕ) (w : List ℕ) → drop at all ≡ w ∷ drop (at + 1) all → is_dashed w ≡ true → false ≡ are_plain (drop at all)
+plain_stop all at w is dashed = sym (ap are_plain is ∙ rw dashed refl)
+
+-- all words were looked at
+pub plain_end : {A : Type 0} (f : A → List ℕ) (all : List A) (at : ℕ) → length all ≤ at → are_plain (drop at (map f all)) ≡ true
+plain_end f [] zero h = refl
+plain_end f [] (suc at) h = refl
+plain_end f (x ∷ all) zero h = absurd (omega (arith, h))
+plain_end {A = A} f (x ∷ all) (suc at) h = plain_end f all at (omega (arith, h))

@@ -6,3 +6,4 @@ pub mod Made
 pub mod Sound
 pub mod Complete
 pub mod Whole
+mod Plain

@@ -1,19 +1,22 @@
 -- The words are the command that is read, and no other.
-use Rattle.std.proofs.Common.{◌≡◌, ℕ, List, [], ◌∷◌, refl, sym, ◌∙◌, ap, subst}
-use Rattle.std.specs.Prelude.{Bool, true, false, ◌||◌, Option, Some, None, IfSome, IfNone, codes, unwrap_or, if◌then◌else◌}
+use Rattle.std.proofs.Common.{◌≡◌, ℕ, ◌<◌, ◌≤◌, List, [], ◌∷◌, length, arith, refl, sym, ◌∙◌, ap, subst}
+use Rattle.std.specs.Prelude.{Bool, true, false, ◌&&◌, nat_lt, nat_le, Option, Some, None, IfSome, IfNone, codes, unwrap_or, if◌then◌else◌}
 use Rattle.std.specs.Option.{option_map, option_to_list}
 use Rattle.std.specs.Str.{bytes_eq}
 use Rattle.std.specs.List.{slice_get}
 use Rattle.std.proofs.lemmas.Slice.Eq.{bytes_eq-Decides}
 use Rattle.std.proofs.lemmas.Option.{option_and_then_some}
-use Rattle.th_words.specs.Words.{is_dashed, IsRegion, IsSteps, values, Command, Go, Run, IsRun, IsCommand, IsNoCommand, IsAtMostOne}
-use Rattle.th_words.specs.Reading.{region_of, steps_of, nothing_read, read, run_of, run_words, go_words, command_words}
+use Rattle.std.proofs.lemmas.Bool.Decides.{nat_tests}
+use Rattle.std.proofs.lemmas.Bool.{leb-true, ltb-true}
+use Rattle.th_words.specs.Words.{is_dashed, IsRegion, IsSteps, values, AreFiles, Command, Go, Run, IsRun, IsCommand, IsNoCommand, IsAtMostOne}
+use Rattle.th_words.specs.Reading.{region_of, steps_of, nothing_read, read, run_of, run_words, are_plain, are_files, go_words, command_words}
 use Rattle.th_words.specs.declared.options.OptionName.TheVariants.{Region, Steps}
 use Rattle.th_words.specs.declared.options.Place.{Place}
 use Rattle.th_words.specs.declared.options.Place.TheVariants as places
 use Rattle.th_words.specs.declared.options.Reading.{Reading}
 use Rattle.th_words.proofs.Digits.{region_means, region_read, steps_means, steps_read}
 use Rattle.th_words.proofs.Values.{says, said}
+use Rattle.th_words.proofs.Plain.{both_true, plain_all, all_plain}
 use Rattle.th_words.proofs.Made.{made, held}
 use Rattle.th_words.proofs.Sound.{IsDone, words_read}
 use Rattle.th_words.proofs.Complete.{run_with, items_said}
@@ -51,22 +54,35 @@ run_sound words c is =
       steps_said = says steps_of IsSteps 50000000 steps_means (values Steps found.0) end.steps found.3.counts;
     }))
 
-go_by : (out file : List ℕ) (c : Command) (first second : Bool) → is_dashed out ≡ first → is_dashed file ≡ second → (if first || second then None else Some (Go out file)) ≡ Some c → IsCommand (codes "go" ∷ out ∷ file ∷ []) c
-go_by out file c true second first_is second_is is = cc
-go_by out file c false true first_is second_is is = cc
-go_by out file c false false first_is second_is is =
-    let same : Go out file ≡ c = cc in
-    subst (λ (d : Command). IsCommand (codes "go" ∷ out ∷ file ∷ []) d) same (record { is = refl; out_plain = first_is; file_plain = second_is })
+files_by : (files : List (List ℕ)) (long : Bool) → nat_lt 0 (length files) && nat_le (length files) 64 ≡ long → (if long then are_plain files else false) ≡ true → AreFiles files
+files_by files false long_is is = cc
+files_by files true long_is is =
+    let both = both_true (nat_lt 0 (length files)) (nat_le (length files) 64) long_is in
+    record { some = ltb-true 0 (length files) both.0; few = leb-true (length files) 64 both.1; plain = plain_all files is }
+
+files_are : (files : List (List ℕ)) → are_files files ≡ true → AreFiles files
+files_are files is = files_by files (nat_lt 0 (length files) && nat_le (length files) 64) refl is
+
+are_read : (files : List (List ℕ)) → AreFiles files → are_files files ≡ true
+are_read files h = let p = all_plain files h.plain in let s = h.some in let f = h.few in grind (arith, nat_tests)
+
+go_by : (out : List ℕ) (files : List (List ℕ)) (c : Command) (first second : Bool) → is_dashed out ≡ first → are_files files ≡ second → (if first then None else (if second then Some (Go out files) else None)) ≡ Some c → IsCommand (codes "go" ∷ out ∷ files) c
+go_by out files c true second first_is second_is is = cc
+go_by out files c false false first_is second_is is = cc
+go_by out files c false true first_is second_is is =
+    let same : Go out files ≡ c = cc in
+    subst (λ (d : Command). IsCommand (codes "go" ∷ out ∷ files) d) same (record { is = refl; out_plain = first_is; names = files_are files second_is })
 
 go_sound : (words : List (List ℕ)) (c : Command) → go_words words ≡ Some c → IsCommand (codes "go" ∷ words) c
 go_sound [] c is = cc
-go_sound (out ∷ []) c is = cc
-go_sound (out ∷ file ∷ []) c is = go_by out file c (is_dashed out) (is_dashed file) refl refl is
-go_sound (out ∷ file ∷ more ∷ words) c is = cc
+go_sound (out ∷ files) c is = go_by out files c (is_dashed out) (are_files files) refl refl is
 
-sound_by : (name : List ℕ) (words : List (List ℕ)) (c : Command) (first second : Bool) → bytes_eq name (codes "go") ≡ first → bytes_eq name (codes "run") ≡ second → (if first then go_words words else (if second then run_words words else None)) ≡ Some c → IsCommand (name ∷ words) c
-sound_by name words c true second first_is second_is is = subst (λ (n : List ℕ). IsCommand (n ∷ words) c) (sym ((bytes_eq-Decides name (codes "go")).0 first_is)) (go_sound words c is)
-sound_by name words c false true first_is second_is is = subst (λ (n : List ℕ). IsCommand (n ∷ words) c) (sym ((bytes_eq-Decides name (codes "run")).0 second_is)) (run_sound words c is)
+sound_by : (name : List ℕ) (words : List (List ℕ)) (c : Command) (first second : Bool) → bytes_eq name (codes "go") ≡ first → bytes_eq name (codes "run") ≡ second
+    → (if first then go_words words else (if second then run_words words else None)) ≡ Some c → IsCommand (name ∷ words) c
+sound_by name words c true second first_is second_is is =
+    subst (λ (n : List ℕ). IsCommand (n ∷ words) c) (sym ((bytes_eq-Decides name (codes "go")).0 first_is)) (go_sound words c is)
+sound_by name words c false true first_is second_is is =
+    subst (λ (n : List ℕ). IsCommand (n ∷ words) c) (sym ((bytes_eq-Decides name (codes "run")).0 second_is)) (run_sound words c is)
 sound_by name words c false false first_is second_is is = cc
 
 -- what is read is what the words are
@@ -82,7 +98,7 @@ run_complete words file region steps is =
 
 -- what the words are is read
 complete : (words : List (List ℕ)) (c : Command) → IsCommand words c → command_words words ≡ Some c
-complete words (Go out file) is = ap command_words is.is ∙ rw (is.out_plain, is.file_plain) refl
+complete words (Go out files) is = ap command_words is.is ∙ rw (is.out_plain, are_read files is.names) refl
 complete words (Run file region steps) is = run_complete words file region steps is
 
 -- an answer that agrees with the reading is the command, none where there is none, and the only one

@@ -1,5 +1,5 @@
 -- How words are read one after another; only private contracts cite these.
-use Rattle.std.specs.Prelude.{ℕ, ◌+◌, ◌%◌, nat_eq, nat_lt, nat_le, ◌&&◌, ◌||◌, List, [], ◌∷◌, length, codes, Option, Some, None, is_some, unwrap_or, if◌then◌else◌, option_and_then}
+use Rattle.std.specs.Prelude.{ℕ, ◌+◌, ◌%◌, nat_eq, nat_lt, nat_le, Bool, true, false, ◌&&◌, List, [], ◌∷◌, length, codes, Option, Some, None, is_some, unwrap_or, if◌then◌else◌, option_and_then}
 use Rattle.std.specs.Option.{option_map}
 use Rattle.std.specs.List.{list_all, slice_get}
 use Rattle.std.specs.Char.{is_ascii_digit}
@@ -96,12 +96,19 @@ run_of places.Plain words reading = run_at words reading.region reading.steps re
 abbrev pub run_words : List (List ℕ) → Option Command
 run_words words = option_and_then (λ reading. run_of reading.place words reading) (read words 0 nothing_read)
 
+-- whether no word begins with `-`, but for `-` alone
+abbrev pub are_plain : List (List ℕ) → Bool
+are_plain [] = true
+are_plain (word ∷ words) = if is_dashed word then false else are_plain words
+
+-- whether words name files
+abbrev pub are_files : List (List ℕ) → Bool
+are_files words = if nat_lt 0 (length words) && nat_le (length words) 64 then are_plain words else false
+
 -- the command that words behind `go` are
 abbrev pub go_words : List (List ℕ) → Option Command
 go_words [] = None
-go_words (out ∷ []) = None
-go_words (out ∷ file ∷ []) = if is_dashed out || is_dashed file then None else Some (Go out file)
-go_words (out ∷ file ∷ more ∷ words) = None
+go_words (out ∷ files) = if is_dashed out then None else (if are_files files then Some (Go out files) else None)
 
 -- the command that words are
 abbrev pub command_words : List (List ℕ) → Option Command

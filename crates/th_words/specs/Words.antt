@@ -98,11 +98,17 @@ Says Rule default [] n = n ≡ default
 Says Rule default (value ∷ []) n = Rule value n
 Says Rule default (value ∷ again ∷ more) n = ⊥
 
--- the words are `go OUT FILE`, where neither name begins with `-`, but for `-` alone
-pub record IsGo (words : List (List ℕ)) (out file : List ℕ) : Type 0 where
-  pub is : words ≡ codes "go" ∷ out ∷ file ∷ []
+-- names of files: 1 to 64 words, none of which begins with `-`, but for `-` alone
+pub record AreFiles (files : List (List ℕ)) : Type 0 where
+  pub some : 0 < length files
+  pub few : length files ≤ 64
+  pub plain : AllByRecursion (λ word. is_dashed word ≡ false) files
+
+-- the words are `go OUT FILES`, where OUT doesn't begin with `-` either, but for `-` alone
+pub record IsGo (words : List (List ℕ)) (out : List ℕ) (files : List (List ℕ)) : Type 0 where
+  pub is : words ≡ codes "go" ∷ out ∷ files
   pub out_plain : is_dashed out ≡ false
-  pub file_plain : is_dashed file ≡ false
+  pub names : AreFiles files
 
 -- the words are `run`, and then one plain word FILE and the options, in any order, each at most once
 pub record IsRun (words : List (List ℕ)) (file : List ℕ) (region steps : ℕ) : Type 0 where
@@ -116,12 +122,12 @@ pub record IsRun (words : List (List ℕ)) (file : List ℕ) (region steps : ℕ
 
 -- the commands
 pub data Command : Type 0 where
-  Go : (out file : List ℕ) → Command
+  Go : (out : List ℕ) (files : List (List ℕ)) → Command
   Run : (file : List ℕ) (region steps : ℕ) → Command
 
 -- the words are the command
 abbrev pub IsCommand : List (List ℕ) → Command → Type 0
-IsCommand words (Go out file) = IsGo words out file
+IsCommand words (Go out files) = IsGo words out files
 IsCommand words (Run file region steps) = IsRun words file region steps
 
 -- the words are no command

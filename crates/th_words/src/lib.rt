@@ -8,10 +8,12 @@ ghost use Rattle.th_words.specs.Decoded.{command_of};
 ghost use Rattle.th_words.specs.Reading.{command_words, go_words, run_words};
 
 mod commands;
+mod file_names;
 mod numbers;
 mod options;
 
 pub use commands::Command;
+use file_names::are_files;
 use options::{Place, is_dashed, read};
 
 /// The size of the region where the words don't set it, in bytes.
@@ -24,15 +26,12 @@ const DEFAULT_STEPS: u64 = 50_000_000;
 fn go(words: &[String]) -> Option<Command<'_>>
     ensures { option_map command_of result ≡ go_words (map string_bytes words.now) }
 {
-    let [out, file] = words else {
-        return None;
-    };
+    let (out, files) = words.split_first()?;
     let out = out.as_str();
-    let file = file.as_str();
-    if is_dashed(out) || is_dashed(file) {
+    if is_dashed(out) || !are_files(files) {
         return None;
     }
-    Some(Command::Go { out, file })
+    Some(Command::Go { out, files })
 }
 
 /// The command that the words behind `run` are.
