@@ -1,0 +1,5 @@
+pub mod LeastNames
+pub mod Entries
+pub mod Placed
+pub mod Exported
+pub mod Finding

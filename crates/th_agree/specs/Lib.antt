@@ -1,0 +1,3 @@
+pub mod Names
+pub mod Agree
+pub mod Noted
