@@ -1,5 +1,5 @@
 -- The counts of texts, one after another.
-use Rattle.std.proofs.Common.{◌≡◌, ◌∙◌, ◌+◌, ◌<◌, ℕ, suc, List, [], ◌∷◌, ◌++◌, Option, Some, None, length, map, drop, get_or, refl, sym, ap, add-one}
+use Rattle.std.proofs.Common.{◌≡◌, ◌∙◌, ◌+◌, ◌<◌, ℕ, List, [], ◌∷◌, ◌++◌, Option, Some, None, length, map, drop, get_or, refl, sym, ap, add-one}
 use Rattle.std.proofs.Math.Seq.{drop-cons}
 use Rattle.th_tree.specs.Spans.{Tokenized}
 use Rattle.th_limits.specs.Words.{tokens_counts}

@@ -1,5 +1,5 @@
 -- The stages of the rules, and which failure is named.
-use Rattle.std.proofs.Common.{◌≡◌, ◌⊎◌, inl, inr, Ok, Err, Some, None}
+use Rattle.std.proofs.Common.{inl, inr, Ok, Err, Some, None}
 use Rattle.th_type.specs.Failures.{IsLeastOf}
 use Rattle.th_type.specs.declared.place.Failure.{Failure}
 use Rattle.th_module_rules.specs.Stages.{FailsFirst, FailsFourth, FailsThird, IsNamed, NothingFails, Program, RefusedBy, RulesHold}

@@ -2,3 +2,6 @@ pub mod Judging
 pub mod Counting
 pub mod Reading
 pub mod Accepting
+pub mod Once
+pub mod OneModule
+pub mod Never

@@ -1,5 +1,5 @@
 -- Texts that are read, and those that are not.
-use Rattle.std.proofs.Common.{◌≡◌, ◌≤◌, ◌<◌, ◌+◌, ℕ, zero, suc, List, [], ◌∷◌, Some, length, slice_get, refl, sym, ◌∙◌, ap, subst, ◌⊎◌, inl, inr, arith}
+use Rattle.std.proofs.Common.{◌≡◌, ◌≤◌, ◌+◌, ℕ, zero, suc, List, [], ◌∷◌, Some, length, slice_get, refl, sym, ◌∙◌, ap, subst, inl, inr, arith}
 use Rattle.th_tree.specs.declared.tokens.Token.{Token}
 use Rattle.th_tree.specs.Spans.{Tokenized}
 use Rattle.th_tree.specs.Cut.{Cuts}
@@ -50,7 +50,7 @@ short_tokens (t ∷ ts) (y ∷ xs) h few (suc k) x e = short_tokens ts xs h.2 (�
 pub one_list : (t : List ℕ) (ts us : List Token) → AreTokens t ts → AreTokens t us → ts ≡ us
 one_list t ts us a b = let e = one_verdict t (Cuts ts) (Cuts us) a.cut b.cut in cc
 
-begins_on : (t : List ℕ) (ts us : List Token) → AreTokens t ts → AreTokens t us → BeginsInterface ts → BeginsInterface us
+pub begins_on : (t : List ℕ) (ts us : List Token) → AreTokens t ts → AreTokens t us → BeginsInterface ts → BeginsInterface us
 begins_on t ts us a b h = subst (λ (vs : List Token). BeginsInterface vs) (one_list t ts us a b) h
 
 -- a list that begins with something is not empty

@@ -1,3 +1,4 @@
 pub mod Counts
 pub mod Answers
 pub mod Stages
+pub mod Laws

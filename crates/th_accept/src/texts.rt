@@ -1,11 +1,14 @@
 //! From texts to checked modules.
 ghost use Rattle.std.specs.Prelude.{◌≡◌, ◌≤◌, ◌∷◌, ◌<◌, [], ℕ, List, IfErr, IfOk, OnErr, OnOk, Some, length, map, slice_get};
+ghost use Rattle.th_tree.specs.DeclView.{interface_of, module_of as tree_of};
 ghost use Rattle.th_hier.specs.Numbering.{Grown};
+ghost use Rattle.th_meaning.specs.Program.{ProgramModule};
 ghost use Rattle.th_meaning.specs.View.{module_of};
 ghost use Rattle.th_module_rules.specs.Texts.{AllGiven, HasNames};
 ghost use Rattle.th_program.specs.Programs.{Ascending, IsPaired, program_of};
 ghost use Rattle.th_texts.specs.Reading.{AreShort};
 ghost use Rattle.th_texts.specs.Tokens.{AreAllTokens};
+ghost use Rattle.th_full_names.specs.Numbering.{with_full_names};
 ghost use Rattle.th_accept.specs.Answers.{Accepted, AcceptedWith, IsModuleFirst, Refused, RefusedWith};
 ghost use Rattle.th_accept.specs.declared.refusal.Refusal.TheVariants.{Memory};
 ghost use Rattle.th_accept.specs.Stages.{HasRead, LacksInterface, RefusedLate, text_refusal};
@@ -100,6 +103,7 @@ fn put_names(alloc: Global, trees: &mut Trees) -> Result<(), Refusal>
     ensures texts { trees.new.interface_texts ≡ trees.old.interface_texts }
     ensures interfaces { (program_of trees.new).interfaces ≡ (program_of trees.old).interfaces }
     ensures modules { (program_of trees.new).modules ≡ (program_of trees.old).modules }
+    ensures table { IfOk result (λ _. trees.new.names ≡ with_full_names trees.old.names (map interface_of trees.old.interfaces.items) (map tree_of trees.old.modules.items)) }
     ensures named { IfOk result (λ _. HasNames (program_of trees.new)) }
     ensures memory { IfErr result (λ e. e ≡ Memory) }
 {
@@ -140,11 +144,9 @@ fn bytes_of<'a>(alloc: Global, texts: &'a [Vec<u8>]) -> Result<Vec<&'a [u8]>, Al
     Ok(done)
 }
 
-/// The checked modules of a program, in the order of the texts. A text whose first token is `interface` is an interface, and each
-/// other one a module.
+/// The checked modules of texts, in their order, or why they are refused.
 #[tactic(auto, using(crate::proofs::Accepting::late_refused))]
-pub fn accept_all(alloc: Global, texts: &[Vec<u8>]) -> Result<Vec<CoreModule>, Refusal>
-    requires few { length texts.now ≤ 64 }
+fn judge_all(alloc: Global, texts: &[Vec<u8>]) -> Result<Vec<CoreModule>, Refusal>
     requires short { (k : ℕ) (t : List ℕ) → slice_get (map (λ x. x.items) texts.now) k ≡ Some t → length t ≤ 2097152 }
     ensures accepted { IfOk result (λ r. Accepted (map (λ x. x.items) texts.now) (map module_of r.items)) }
     ensures refused { IfErr result (Refused (map (λ x. x.items) texts.now)) }
@@ -153,6 +155,18 @@ pub fn accept_all(alloc: Global, texts: &[Vec<u8>]) -> Result<Vec<CoreModule>, R
     let tokens = tokens_of(alloc, &texts)?;
     let trees = trees_of(alloc, &tokens)?;
     checked(alloc, &tokens, trees)
+}
+
+/// The checked modules of a program, in the order of the texts. A text whose first token is `interface` is an interface, and each
+/// other one a module.
+pub fn accept_all(alloc: Global, texts: &[Vec<u8>]) -> Result<Vec<CoreModule>, Refusal>
+    requires few { length texts.now ≤ 64 }
+    requires short { (k : ℕ) (t : List ℕ) → slice_get (map (λ x. x.items) texts.now) k ≡ Some t → length t ≤ 2097152 }
+    ensures accepted { IfOk result (λ r. Accepted (map (λ x. x.items) texts.now) (map module_of r.items)) }
+    ensures refused { IfErr result (Refused (map (λ x. x.items) texts.now)) }
+    ensures complete { IfErr result (λ e. (ms : List ProgramModule) → Accepted (map (λ x. x.items) texts.now) ms → e ≡ Memory) }
+{
+    judge_all(alloc, texts)
 }
 
 /// The bytes of a text and of further ones.
@@ -202,10 +216,8 @@ fn checked_module(alloc: Global, tokens: &[Tokens<'_>], trees: Trees) -> Result<
     }
 }
 
-/// The checked module of a text with these interfaces. The module is the text 0, and the k-th interface, from 0, is the text
-/// k + 1.
-pub fn accept(alloc: Global, text: &[u8], interfaces: &[Vec<u8>]) -> Result<CoreModule, Refusal>
-    requires few { length interfaces.now ≤ 63 }
+/// The checked module of a text with these interfaces, or why they are refused.
+fn judge_with(alloc: Global, text: &[u8], interfaces: &[Vec<u8>]) -> Result<CoreModule, Refusal>
     requires long { length text.now ≤ 2097152 }
     requires short { (k : ℕ) (t : List ℕ) → slice_get (map (λ x. x.items) interfaces.now) k ≡ Some t → length t ≤ 2097152 }
     ensures accepted { IfOk result (λ r. AcceptedWith (text.now ∷ map (λ x. x.items) interfaces.now) (module_of r)) }
@@ -215,4 +227,17 @@ pub fn accept(alloc: Global, text: &[u8], interfaces: &[Vec<u8>]) -> Result<Core
     let tokens = tokens_of(alloc, &texts)?;
     let trees = trees_with(alloc, &tokens)?;
     checked_module(alloc, &tokens, trees)
+}
+
+/// The checked module of a text with these interfaces. The module is the text 0, and the k-th interface, from 0, is the text
+/// k + 1.
+pub fn accept(alloc: Global, text: &[u8], interfaces: &[Vec<u8>]) -> Result<CoreModule, Refusal>
+    requires few { length interfaces.now ≤ 63 }
+    requires long { length text.now ≤ 2097152 }
+    requires short { (k : ℕ) (t : List ℕ) → slice_get (map (λ x. x.items) interfaces.now) k ≡ Some t → length t ≤ 2097152 }
+    ensures accepted { IfOk result (λ r. AcceptedWith (text.now ∷ map (λ x. x.items) interfaces.now) (module_of r)) }
+    ensures refused { IfErr result (RefusedWith (text.now ∷ map (λ x. x.items) interfaces.now)) }
+    ensures complete { IfErr result (λ e. (m : ProgramModule) → AcceptedWith (text.now ∷ map (λ x. x.items) interfaces.now) m → e ≡ Memory) }
+{
+    judge_with(alloc, text, interfaces)
 }

@@ -1,41 +1,28 @@
 //! The full names of items. docs/LANGUAGE.md, "Names and scopes", states what a full name is.
-ghost use Rattle.std.specs.Prelude.{◌≡◌, ◌∷◌, ◌++◌, [], true, map, IfOk, OnOk};
+ghost use Rattle.std.specs.Prelude.{◌≡◌, ◌∷◌, ◌++◌, ℕ, List, [], Some, codes, map, slice_get, IfOk, OnOk};
 ghost use Rattle.th_tree.specs.DeclView.{interface_of, interface_item_of, module_of, module_item_of};
-ghost use Rattle.th_tree.specs.Names.{is_there};
+ghost use Rattle.th_tree.specs.Names.{with_name};
 ghost use Rattle.th_hier.specs.Numbering.{Grown, name_bytes};
 ghost use Rattle.th_hier.specs.Spots.{item_name};
 ghost use Rattle.th_module_rules.specs.Own.{head_item};
 ghost use Rattle.th_module_rules.specs.Texts.{HasNames};
 ghost use Rattle.th_program.specs.Programs.{program_of};
-ghost use Rattle.th_full_names.specs.Numbering.{AllThere, IfStayed, InterfacesThere, ItemsThere, ModuleThere, ModulesThere, joined};
+ghost use Rattle.th_full_names.specs.Numbering.{Adds, full_names, joined, names_behind, names_in_interfaces, names_in_module, names_in_modules, with_full_names, with_names};
 
 use std::alloc::{AllocError, Global};
 use th_program::Trees;
-use th_tree::{Interface, InterfaceItem, Module, ModuleItem, NameTable};
+use th_tree::{Interface, InterfaceItem, Module, ModuleItem, Name, NameTable};
 
 /// The most names that a table has.
 const MOST_NAMES: usize = 0xffff_fffe;
 
-/// Puts a name into the table.
-#[tactic(auto, using(crate::proofs::NameLaws::with_stayed, crate::proofs::NameLaws::with_grown))]
-fn put(alloc: Global, names: &mut NameTable, name: &[u8]) -> Result<(), AllocError>
-    ensures grown { Grown names.old names.new }
-    ensures there { OnOk result (IfStayed names.old names.new (λ t. is_there t name.now ≡ true)) }
-{
-    if names.len() >= MOST_NAMES {
-        return Err(AllocError);
-    }
-    names.number(alloc, name)?;
-    Ok(())
-}
-
-/// The name with the number, which is empty where the table has no such number.
-fn name_bytes(names: &NameTable, number: u32) -> &[u8]
-    ensures { result.now ≡ name_bytes names.now number }
+/// The bytes of the name with the number, where the table has one.
+fn bytes_of(names: &NameTable, number: u32) -> Result<&[u8], AllocError>
+    ensures { IfOk result (λ name. slice_get names.now number ≡ Some name.now) }
 {
     match names.name(number) {
-        Some(name) => name,
-        None => &[],
+        Some(name) => Ok(name),
+        None => Err(AllocError),
     }
 }
 
@@ -46,29 +33,22 @@ fn joined(
     first: u32,
     between: u8,
     second: u32,
-) -> Result<Vec<u8>, AllocError>
-    ensures { IfOk result (λ v. v.items ≡ joined names.now first between second) }
+) -> Result<Name, AllocError>
+    ensures { IfOk result (λ name. (t : List (List ℕ)) → Grown names.now t → name ≡ joined t first between second) }
 {
-    let mut bytes = Vec::from_slice(alloc, name_bytes(names, first))?;
+    let mut bytes = Vec::from_slice(alloc, bytes_of(names, first)?)?;
     bytes.push(between)?;
-    bytes.extend_from_slice(name_bytes(names, second))?;
-    Ok(bytes)
+    bytes.extend_from_slice(bytes_of(names, second)?)?;
+    Ok(Name::of(bytes))
 }
 
-/// Puts two names with a byte between them into the table, as one name.
-#[tactic(auto, using(crate::proofs::NameLaws::stayed_back))]
-fn put_joined(
-    alloc: Global,
-    names: &mut NameTable,
-    first: u32,
-    between: u8,
-    second: u32,
-) -> Result<(), AllocError>
-    ensures grown { Grown names.old names.new }
-    ensures there { OnOk result (IfStayed names.old names.new (λ t. is_there t (joined t first between second) ≡ true)) }
+/// The name with the number, and `/` after it.
+fn scope_name(alloc: Global, names: &NameTable, number: u32) -> Result<Name, AllocError>
+    ensures { IfOk result (λ name. (t : List (List ℕ)) → Grown names.now t → name ≡ name_bytes t number ++ 47 ∷ []) }
 {
-    let bytes = joined(alloc, names, first, between, second)?;
-    put(alloc, names, &bytes)
+    let mut bytes = Vec::from_slice(alloc, bytes_of(names, number)?)?;
+    bytes.push(b'/')?;
+    Ok(Name::of(bytes))
 }
 
 /// The number of the name of an item of an interface.
@@ -93,164 +73,171 @@ fn module_item_name(item: &ModuleItem) -> u32
     }
 }
 
-/// Puts the full name of an item of the interface with this name into the table.
-fn put_item(
+/// Adds two names with a byte between them, as one name.
+fn add_joined(
     alloc: Global,
-    names: &mut NameTable,
-    interface: u32,
-    item: &InterfaceItem,
+    names: &NameTable,
+    further: &mut Vec<Name>,
+    first: u32,
+    between: u8,
+    second: u32,
 ) -> Result<(), AllocError>
-    ensures grown { Grown names.old names.new }
-    ensures there { OnOk result (IfStayed names.old names.new (λ t. is_there t (joined t interface 36 (item_name (interface_item_of item.now)).name) ≡ true)) }
+    ensures { OnOk result (Adds names.now (λ t. joined t first between second ∷ []) further.old.items further.new.items) }
 {
-    let name = interface_item_name(item);
-    put_joined(alloc, names, interface, b'$', name)
+    let name = joined(alloc, names, first, between, second)?;
+    further.push(name)?;
+    Ok(())
 }
 
-/// Puts the full names of items of the interface with this name into the table.
-fn put_items(
+/// Adds the full names of items of the interface with this name.
+fn add_items(
     alloc: Global,
-    names: &mut NameTable,
+    names: &NameTable,
+    further: &mut Vec<Name>,
     interface: u32,
     items: &[InterfaceItem],
 ) -> Result<(), AllocError>
-    ensures grown { Grown names.old names.new }
-    ensures there { OnOk result (IfStayed names.old names.new (λ t. ItemsThere t interface 36 (map interface_item_of items.now))) }
+    ensures { OnOk result (Adds names.now (λ t. names_behind t interface 36 (map interface_item_of items.now)) further.old.items further.new.items) }
 {
     for item in items {
-        put_item(alloc, names, interface, item)?;
+        let name = interface_item_name(item);
+        add_joined(alloc, names, further, interface, b'$', name)?;
     }
     Ok(())
 }
 
-/// The name of a module with `/` after it.
-fn scope_name(alloc: Global, names: &NameTable, program: u32) -> Result<Vec<u8>, AllocError>
-    ensures { IfOk result (λ v. v.items ≡ name_bytes names.now program ++ 47 ∷ []) }
-{
-    let mut bytes = Vec::from_slice(alloc, name_bytes(names, program))?;
-    bytes.push(b'/')?;
-    Ok(bytes)
-}
-
-/// Puts the name under which a module's own items stand into the table.
-#[tactic(auto, using(crate::proofs::NameLaws::stayed_back))]
-fn put_scope(alloc: Global, names: &mut NameTable, program: u32) -> Result<(), AllocError>
-    ensures grown { Grown names.old names.new }
-    ensures there { OnOk result (IfStayed names.old names.new (λ t. is_there t (name_bytes t program ++ 47 ∷ []) ≡ true)) }
-{
-    let bytes = scope_name(alloc, names, program)?;
-    put(alloc, names, &bytes)
-}
-
-/// Puts the name of an item of the module with this name as a private one into the table.
-fn put_own_item(
+/// Adds the full names of the items of interfaces.
+fn add_interfaces(
     alloc: Global,
-    names: &mut NameTable,
-    program: u32,
-    item: &ModuleItem,
+    names: &NameTable,
+    further: &mut Vec<Name>,
+    interfaces: &[Interface],
 ) -> Result<(), AllocError>
-    ensures grown { Grown names.old names.new }
-    ensures there { OnOk result (IfStayed names.old names.new (λ t. is_there t (joined t program 47 (item_name (head_item (module_item_of item.now))).name) ≡ true)) }
+    ensures { OnOk result (Adds names.now (λ t. names_in_interfaces t (map interface_of interfaces.now)) further.old.items further.new.items) }
 {
-    let name = module_item_name(item);
-    put_joined(alloc, names, program, b'/', name)
+    for interface in interfaces {
+        add_items(alloc, names, further, interface.name.name, &interface.items)?;
+    }
+    Ok(())
 }
 
-/// Puts the names of items of the module with this name as private ones into the table.
-fn put_own_items(
+/// Adds the names of items of the module with this name as private ones.
+fn add_own_items(
     alloc: Global,
-    names: &mut NameTable,
+    names: &NameTable,
+    further: &mut Vec<Name>,
     program: u32,
     items: &[ModuleItem],
 ) -> Result<(), AllocError>
-    ensures grown { Grown names.old names.new }
-    ensures there { OnOk result (IfStayed names.old names.new (λ t. ItemsThere t program 47 (map head_item (map module_item_of items.now)))) }
+    ensures { OnOk result (Adds names.now (λ t. names_behind t program 47 (map head_item (map module_item_of items.now))) further.old.items further.new.items) }
 {
     for item in items {
-        put_own_item(alloc, names, program, item)?;
+        let name = module_item_name(item);
+        add_joined(alloc, names, further, program, b'/', name)?;
     }
     Ok(())
 }
 
-/// Puts the names under which the items of a module stand into the table.
-fn put_module(alloc: Global, names: &mut NameTable, program: &Module) -> Result<(), AllocError>
-    ensures grown { Grown names.old names.new }
-    ensures there { OnOk result (IfStayed names.old names.new (λ t. ModuleThere t (module_of program.now))) }
-{
-    put_scope(alloc, names, program.name.name)?;
-    put_own_items(alloc, names, program.name.name, &program.items)
-}
-
-/// Puts the full names of the items of interfaces into the table.
-fn put_interfaces(
+/// Adds the name under which the own items of the module with this name stand.
+fn add_scope(
     alloc: Global,
-    names: &mut NameTable,
-    interfaces: &[Interface],
+    names: &NameTable,
+    further: &mut Vec<Name>,
+    program: u32,
 ) -> Result<(), AllocError>
-    ensures grown { Grown names.old names.new }
-    ensures there { OnOk result (IfStayed names.old names.new (λ t. InterfacesThere t (map interface_of interfaces.now))) }
+    ensures { OnOk result (Adds names.now (λ t. (name_bytes t program ++ 47 ∷ []) ∷ []) further.old.items further.new.items) }
 {
-    for interface in interfaces {
-        put_items(alloc, names, interface.name.name, &interface.items)?;
-    }
+    let name = scope_name(alloc, names, program)?;
+    further.push(name)?;
     Ok(())
 }
 
-/// Puts the names under which the items of modules stand into the table.
-fn put_modules(alloc: Global, names: &mut NameTable, modules: &[Module]) -> Result<(), AllocError>
-    ensures grown { Grown names.old names.new }
-    ensures there { OnOk result (IfStayed names.old names.new (λ t. ModulesThere t (map module_of modules.now))) }
+/// Adds the names under which the items of a module stand.
+fn add_module(
+    alloc: Global,
+    names: &NameTable,
+    further: &mut Vec<Name>,
+    program: &Module,
+) -> Result<(), AllocError>
+    ensures { OnOk result (Adds names.now (λ t. names_in_module t (module_of program.now)) further.old.items further.new.items) }
+{
+    add_scope(alloc, names, further, program.name.name)?;
+    add_own_items(alloc, names, further, program.name.name, &program.items)
+}
+
+/// Adds the names under which the items of modules stand.
+fn add_modules(
+    alloc: Global,
+    names: &NameTable,
+    further: &mut Vec<Name>,
+    modules: &[Module],
+) -> Result<(), AllocError>
+    ensures { OnOk result (Adds names.now (λ t. names_in_modules t (map module_of modules.now)) further.old.items further.new.items) }
 {
     for program in modules {
-        put_module(alloc, names, program)?;
+        add_module(alloc, names, further, program)?;
     }
     Ok(())
 }
 
-/// Puts the full names of all items and the name `main` into the table.
-fn put_all(
-    alloc: Global,
-    names: &mut NameTable,
-    interfaces: &[Interface],
-    modules: &[Module],
-) -> Result<(), AllocError>
-    ensures grown { Grown names.old names.new }
-    ensures there { OnOk result (IfStayed names.old names.new (λ t. AllThere t (map interface_of interfaces.now) (map module_of modules.now))) }
+/// The list that has the name `main` alone.
+fn main_alone(alloc: Global) -> Result<Vec<Name>, AllocError>
+    ensures { IfOk result (λ further. further.items ≡ codes "main" ∷ []) }
 {
-    put(alloc, names, b"main")?;
-    put_interfaces(alloc, names, interfaces)?;
-    put_modules(alloc, names, modules)
+    let name = Name::of(Vec::from_slice(alloc, b"main")?);
+    let mut further = Vec::new(alloc);
+    further.push(name)?;
+    Ok(further)
 }
 
-/// The same until the table stays as it is, so that all are there: twice, where the trees have no number that the table lacks.
-fn put_until_there(
+/// The full names of all items, after the name `main`.
+fn full_names(
     alloc: Global,
-    names: &mut NameTable,
+    names: &NameTable,
     interfaces: &[Interface],
     modules: &[Module],
-) -> Result<(), AllocError>
-    ensures grown { Grown names.old names.new }
-    ensures there { OnOk result (AllThere names.new (map interface_of interfaces.now) (map module_of modules.now)) }
+) -> Result<Vec<Name>, AllocError>
+    ensures { IfOk result (λ further. (t : List (List ℕ)) → Grown names.now t → further.items ≡ full_names t (map interface_of interfaces.now) (map module_of modules.now)) }
 {
-    let mut before = names.len();
-    while before < MOST_NAMES {
-        put_all(alloc, names, interfaces, modules)?;
-        let after = names.len();
-        if after == before {
-            return Ok(());
-        }
-        before = after;
+    let mut further = main_alone(alloc)?;
+    add_interfaces(alloc, names, &mut further, interfaces)?;
+    add_modules(alloc, names, &mut further, modules)?;
+    Ok(further)
+}
+
+/// Puts a name into the table.
+#[tactic(auto, using(crate::proofs::NameLaws::with_grown))]
+fn put(alloc: Global, names: &mut NameTable, name: &[u8]) -> Result<(), AllocError>
+    ensures grown { Grown names.old names.new }
+    ensures table { OnOk result (names.new ≡ with_name names.old name.now) }
+{
+    if names.len() >= MOST_NAMES {
+        return Err(AllocError);
     }
-    Err(AllocError)
+    names.number(alloc, name)?;
+    Ok(())
 }
 
-/// Puts the full names of all items and the name `main` into the table of trees. After an error the table has perhaps more names at
-/// its end.
+/// Puts names into the table.
+fn put_all(alloc: Global, names: &mut NameTable, further: &[Name]) -> Result<(), AllocError>
+    ensures grown { Grown names.old names.new }
+    ensures table { OnOk result (names.new ≡ with_names names.old further.now) }
+{
+    for name in further {
+        put(alloc, names, name.as_bytes())?;
+    }
+    Ok(())
+}
+
+/// Puts the name `main` and the full names of all items into the table of trees, each at the end unless it is there. It is an error
+/// if the trees have a number that the table lacks. After an error the table has perhaps more names at its end.
 pub fn number_items(alloc: Global, trees: &mut Trees) -> Result<(), AllocError>
     ensures grown { Grown trees.old.names trees.new.names }
     ensures interfaces { (trees.new.interfaces ≡ trees.old.interfaces) × (trees.new.interface_texts ≡ trees.old.interface_texts) }
     ensures modules { (trees.new.modules ≡ trees.old.modules) × (trees.new.module_texts ≡ trees.old.module_texts) }
+    ensures table { OnOk result (trees.new.names ≡ with_full_names trees.old.names (map interface_of trees.old.interfaces.items) (map module_of trees.old.modules.items)) }
     ensures named { OnOk result (HasNames (program_of trees.new)) }
 {
-    put_until_there(alloc, &mut trees.names, &trees.interfaces, &trees.modules)
+    let further = full_names(alloc, &trees.names, &trees.interfaces, &trees.modules)?;
+    put_all(alloc, &mut trees.names, &further)
 }

@@ -16,7 +16,7 @@ returns-in_err-modules-clause-refused c =
     let put = c.in_ok-put_names.ensures in
     let is = err_from_is_err_and c.from_residual-in_err-modules.result c.from_residual-in_err-modules.ensures.1 in
     λ texts h. rw (is.1, is.2)
-    (fails_refused texts c.args.tokens.now p c.in_err-modules.field-0.0 (read_on texts c.args.tokens.now c.args.trees p h put.grown put.interfaces put.modules) put.named
+    (fails_refused texts c.args.tokens.now p c.in_err-modules.field-0.0 (read_on texts c.args.tokens.now c.args.trees p h c.requires.paired put.grown (record { table = put.table; interfaces = put.interfaces; modules = put.modules })) put.named
     (given_on (program_of c.args.trees) p put.interfaces put.modules c.in_ok-demand_given.ensures.given) c.in_err-modules.ensures.failed)
 
 pub returns-in_err-demand_limits-clause-refused : goal.returns-in_err-demand_limits-clause-refused
@@ -31,7 +31,7 @@ returns-in_err-demand_limits-clause-refused c =
     let is = err_from_is_err_and c.from_residual-in_err-demand_limits.result c.from_residual-in_err-demand_limits.ensures.1 in
     λ texts h. rw (is.1, is.2)
     (exceeds_refused texts xs p (map module_of rs) e
-    (are_lawful texts xs p (map module_of rs) (read_on texts xs c.args.trees p h put.grown put.interfaces put.modules) put.named
+    (are_lawful texts xs p (map module_of rs) (read_on texts xs c.args.trees p h c.requires.paired put.grown (record { table = put.table; interfaces = put.interfaces; modules = put.modules })) put.named
     (given_on (program_of c.args.trees) p put.interfaces put.modules c.in_ok-demand_given.ensures.given) c.in_ok-modules.ensures.rules c.in_ok-modules.ensures.checked) much)
 
 pub returns-clause-accepted : goal.returns-clause-accepted
@@ -45,7 +45,7 @@ returns-clause-accepted c =
     λ texts h. (
       xs,
       p,
-      are_lawful texts xs p (map module_of rs) (read_on texts xs c.args.trees p h put.grown put.interfaces put.modules) put.named
+      are_lawful texts xs p (map module_of rs) (read_on texts xs c.args.trees p h c.requires.paired put.grown (record { table = put.table; interfaces = put.interfaces; modules = put.modules })) put.named
           (given_on (program_of c.args.trees) p put.interfaces put.modules c.in_ok-demand_given.ensures.given) c.in_ok-modules.ensures.rules c.in_ok-modules.ensures.checked,
       kept,
     )
