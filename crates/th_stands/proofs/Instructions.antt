@@ -2,16 +2,18 @@
 use Rattle.std.proofs.Common.{◌≡◌, ◌≢◌, ℕ, zero, suc, ◌+◌, ◌*◌, ◌/◌, ◌%◌, ◌<◌, ◌≤◌, List, [], ◌∷◌, ◌++◌, length, get_or-set_same, get_or-set_other, Some, None, Bool, true, false, cond, nat_lt, nat_eq, refl, sym, ap, ◌∙◌, subst, ◌⊎◌, inl, inr, ⊎_elim, arith, lit<}
 use Rattle.std.specs.Prelude.{slice_set}
 use Rattle.std.proofs.Math.ListN.{length-set}
-use Rattle.std.proofs.lemmas.Bool.{cond_both, cases_eq, cases_lt, eq-eqb, ne_eqb}
+use Rattle.std.proofs.Math.Nat.{div-le_self, mod-le}
+use Rattle.std.proofs.lemmas.Bool.{cond_both, cases_eq, cases_lt, eq-eqb, ne_eqb, lt-ltb, le-ltb}
 use Rattle.th_world.specs.Event.{Event, Put, Took, FoundEnd}
-use Rattle.th_word.specs.Word.{word_add, word_sub, signed_less, flag_word, extend_12, extend_13, extend_21}
+use Rattle.th_word.specs.Word.{word_add, word_sub, signed_less, flag_word, extend_12, extend_13, extend_21, shift_right_signed, multiply, multiply_high, divide, remainder}
+use Rattle.th_word.proofs.Words.{divide-word, remainder-word}
 use Rattle.th_rv.specs.declared.instr.Instr.{Instr}
-use Rattle.th_rv.specs.declared.instr.Instr.TheVariants.{Lui, Auipc, Jal, Jalr, Beq, Bne, Bge, Lw, Sw, Addi, Slti, Sltiu, Add, Sub, Slt, Sltu, Ecall}
+use Rattle.th_rv.specs.declared.instr.Instr.TheVariants.{Lui, Auipc, Jal, Jalr, Beq, Bne, Bge, Lw, Sw, Addi, Slti, Sltiu, Srai, Add, Sub, Slt, Sltu, Mul, Mulh, Div, Divu, Rem, Remu, Bltu, Bgeu, Ecall}
 use Rattle.th_rv.specs.declared.instr.Cause.TheVariants as cause
 use Rattle.th_rv.specs.Memory.{number_at, put_number}
 use Rattle.th_rv.specs.Table.{decode}
-use Rattle.th_rv.specs.Step.{State, Next, Puts, Gets, Traps, reg, set_reg, with_reg, with_number, jumped, execute, execute_found, execute_word, environment_call, step}
-use Rattle.th_elf.specs.Run.{Run, run_step, after, after_get, while_running, with_a0, no_byte, entry_of, trace}
+use Rattle.th_rv.specs.Step.{State, Next, Puts, Gets, Halts, Traps, RoomUsed, reg, set_reg, with_reg, with_number, jumped, execute, execute_found, execute_word, environment_call, step}
+use Rattle.th_elf.specs.Run.{Run, Stopped, run_step, after, after_get, while_running, with_a0, no_byte, entry_of, trace}
 use Rattle.th_stands.specs.Seen.{word_address, Seen, Loaded, Shows, Sees}
 use Rattle.th_stands.proofs.Memory.{number_other, word_same, number_stays}
 
@@ -69,7 +71,7 @@ pub record At (g : Loaded) (pc : ℕ) (i : Instr) : Type 0 where
   pub below : pc + 4 ≤ 268435456
   pub unnamed : g.names pc ≡ None
 
-next_pc : (a pc : ℕ) → a ≡ pc → pc + 4 ≤ 268435456 → word_add a 4 ≡ pc + 4
+pub next_pc : (a pc : ℕ) → a ≡ pc → pc + 4 ≤ 268435456 → word_add a 4 ≡ pc + 4
 next_pc a pc e h = omega arith
 
 reg_other : (l : List ℕ) (i x k : ℕ) → k ≢ i → reg (slice_set l i x) k ≡ reg l k
@@ -102,7 +104,7 @@ length-set_reg l (suc d) x = length-set {A = ℕ} l (suc d) x
 small-upd : (n : ℕ) (wf : ℕ → ℕ) (i x : ℕ) → x < 4294967296 → ((j : ℕ) → j < n → wf j < 4294967296) → (j : ℕ) → j < n → upd wf i x j < 4294967296
 small-upd n wf i x lt h j lj = cond_both (nat_eq j i) x (wf j) (λ n. n < 4294967296) (λ e. lt) (λ e. h j lj)
 
-shows_reg : (g : Loaded) (m : State) (s : Seen) → Shows g m s → s.pc + 4 ≤ 268435456 → (rd x : ℕ) → rd < 32 → x < 4294967296 → Shows g (with_reg m rd x) (seen_reg s rd x)
+pub shows_reg : (g : Loaded) (m : State) (s : Seen) → Shows g m s → s.pc + 4 ≤ 268435456 → (rd x : ℕ) → rd < 32 → x < 4294967296 → Shows g (with_reg m rd x) (seen_reg s rd x)
 unfolding with_reg
 shows_reg g m s v below rd x lt tiny = record {
   pc_is = next_pc m.pc s.pc v.pc_is below;
@@ -159,7 +161,7 @@ shows_store g m s v below i x lt small = record {
 fetched_at : (g : Loaded) (m : State) (s : Seen) → Shows g m s → (i : Instr) (h : At g s.pc i) → number_at 4 1 m.areas m.pc ≡ Some h.word
 fetched_at g m s v i h = ap (number_at 4 1 m.areas) v.pc_is ∙ v.code_stays 1 s.pc h.below ∙ h.fetched
 
-executed : (g : Loaded) (m : State) (s : Seen) → Shows g m s → (i : Instr) → At g s.pc i → step m ≡ execute i m
+pub executed : (g : Loaded) (m : State) (s : Seen) → Shows g m s → (i : Instr) → At g s.pc i → step m ≡ execute i m
 unfolding step
 executed g m s v i h =
     let e0 : nat_eq (m.pc % 4) 0 ≡ true = eq-eqb (m.pc % 4) 0 (ap (λ x. x % 4) v.pc_is ∙ h.aligned) in
@@ -212,6 +214,26 @@ module _ {g : Loaded} {r : Run} {s : Seen} (v : Sees g r s) where
   pub do_add : (rd rs1 rs2 : ℕ) → At g s.pc (Add rd rs1 rs2) → rd < 32 → rs1 < 32 → rs2 < 32 → Sees g (run_step r) (seen_reg s rd (word_add (s.rf rs1) (s.rf rs2)))
   unfolding execute
   do_add rd rs1 rs2 h l1 l2 l3 = view_reg (Add rd rs1 rs2) h rd _ l1 (omega arith) (rw (reg_is rs1 l2, reg_is rs2 l3) refl)
+
+  pub do_mul : (rd rs1 rs2 : ℕ) → At g s.pc (Mul rd rs1 rs2) → rd < 32 → rs1 < 32 → rs2 < 32 → Sees g (run_step r) (seen_reg s rd (multiply (s.rf rs1) (s.rf rs2)))
+  unfolding execute
+  do_mul rd rs1 rs2 h l1 l2 l3 = view_reg (Mul rd rs1 rs2) h rd _ l1 (omega arith) (rw (reg_is rs1 l2, reg_is rs2 l3) refl)
+
+  pub do_mulh : (rd rs1 rs2 : ℕ) → At g s.pc (Mulh rd rs1 rs2) → rd < 32 → rs1 < 32 → rs2 < 32 → Sees g (run_step r) (seen_reg s rd (multiply_high (s.rf rs1) (s.rf rs2)))
+  unfolding execute
+  do_mulh rd rs1 rs2 h l1 l2 l3 = view_reg (Mulh rd rs1 rs2) h rd _ l1 (omega arith) (rw (reg_is rs1 l2, reg_is rs2 l3) refl)
+
+  pub do_srai : (rd rs1 amount : ℕ) → At g s.pc (Srai rd rs1 amount) → rd < 32 → rs1 < 32 → Sees g (run_step r) (seen_reg s rd (shift_right_signed (s.rf rs1) amount))
+  unfolding execute
+  do_srai rd rs1 amount h l1 l2 = view_reg (Srai rd rs1 amount) h rd _ l1 (omega arith) (rw (reg_is rs1 l2) refl)
+
+  pub do_div : (rd rs1 rs2 : ℕ) → At g s.pc (Div rd rs1 rs2) → rd < 32 → rs1 < 32 → rs2 < 32 → Sees g (run_step r) (seen_reg s rd (divide (s.rf rs1) (s.rf rs2)))
+  unfolding execute
+  do_div rd rs1 rs2 h l1 l2 l3 = view_reg (Div rd rs1 rs2) h rd _ l1 (divide-word (s.rf rs1) (s.rf rs2) (v.shows.small rs1 l2)) (rw (reg_is rs1 l2, reg_is rs2 l3) refl)
+
+  pub do_rem : (rd rs1 rs2 : ℕ) → At g s.pc (Rem rd rs1 rs2) → rd < 32 → rs1 < 32 → rs2 < 32 → Sees g (run_step r) (seen_reg s rd (remainder (s.rf rs1) (s.rf rs2)))
+  unfolding execute
+  do_rem rd rs1 rs2 h l1 l2 l3 = view_reg (Rem rd rs1 rs2) h rd _ l1 (remainder-word (s.rf rs1) (s.rf rs2) (v.shows.small rs1 l2)) (rw (reg_is rs1 l2, reg_is rs2 l3) refl)
 
   pub do_sub : (rd rs1 rs2 : ℕ) → At g s.pc (Sub rd rs1 rs2) → rd < 32 → rs1 < 32 → rs2 < 32 → Sees g (run_step r) (seen_reg s rd (word_sub (s.rf rs1) (s.rf rs2)))
   unfolding execute
@@ -310,6 +332,55 @@ module _ {g : Loaded} {r : Run} {s : Seen} (v : Sees g r s) where
   pub do_bge_on : (rs1 rs2 imm : ℕ) → At g s.pc (Bge rs1 rs2 imm) → rs1 < 32 → rs2 < 32 → signed_less (s.rf rs1) (s.rf rs2) ≡ true → Sees g (run_step r) (seen_reg s 0 0)
   unfolding execute
   do_bge_on rs1 rs2 imm h l1 l2 q = view_reg (Bge rs1 rs2 imm) h 0 0 (lit< tt) (lit< tt) (rw (reg_is rs1 l1, reg_is rs2 l2, q) refl)
+
+  pub do_divu : (rd rs1 rs2 : ℕ) → At g s.pc (Divu rd rs1 rs2) → rd < 32 → rs1 < 32 → rs2 < 32 → (s.rf rs2 ≡ 0 → ⊥) → Sees g (run_step r) (seen_reg s rd (s.rf rs1 / s.rf rs2))
+  unfolding execute
+  do_divu rd rs1 rs2 h l1 l2 l3 some =
+      let e : nat_eq (s.rf rs2) 0 ≡ false = ne_eqb (s.rf rs2) 0 some in
+      view_reg (Divu rd rs1 rs2) h rd _ l1 (omega (arith, div-le_self (s.rf rs1) (s.rf rs2), v.shows.small rs1 l2)) (rw (reg_is rs1 l2, reg_is rs2 l3, e) refl)
+
+  pub do_remu : (rd rs1 rs2 : ℕ) → At g s.pc (Remu rd rs1 rs2) → rd < 32 → rs1 < 32 → rs2 < 32 → (s.rf rs2 ≡ 0 → ⊥) → Sees g (run_step r) (seen_reg s rd (s.rf rs1 % s.rf rs2))
+  unfolding execute
+  do_remu rd rs1 rs2 h l1 l2 l3 some =
+      let e : nat_eq (s.rf rs2) 0 ≡ false = ne_eqb (s.rf rs2) 0 some in
+      view_reg (Remu rd rs1 rs2) h rd _ l1 (omega (arith, mod-le (s.rf rs1) (s.rf rs2), v.shows.small rs1 l2)) (rw (reg_is rs1 l2, reg_is rs2 l3, e) refl)
+
+  pub do_bltu_taken : (rs1 rs2 imm to : ℕ) → At g s.pc (Bltu rs1 rs2 imm) → rs1 < 32 → rs2 < 32 → s.rf rs1 < s.rf rs2 → word_add s.pc (extend_13 imm) ≡ to → to % 4 ≡ 0 → Sees g (run_step r) (seen_jump s 0 0 to)
+  unfolding execute
+  do_bltu_taken rs1 rs2 imm to h l1 l2 q e al =
+      let e0 : nat_lt (s.rf rs1) (s.rf rs2) ≡ true = lt-ltb (s.rf rs1) (s.rf rs2) q in
+      let e1 : word_add r.state.pc (extend_13 imm) ≡ to = ap (λ p. word_add p (extend_13 imm)) v.shows.pc_is ∙ e in
+      let e2 : nat_eq (to % 4) 0 ≡ true = eq-eqb (to % 4) 0 al in
+      view_jump (Bltu rs1 rs2 imm) h 0 0 to (lit< tt) (lit< tt) (rw (reg_is rs1 l1, reg_is rs2 l2, e0, e1, e2) refl)
+
+  pub do_bltu_on : (rs1 rs2 imm : ℕ) → At g s.pc (Bltu rs1 rs2 imm) → rs1 < 32 → rs2 < 32 → s.rf rs2 ≤ s.rf rs1 → Sees g (run_step r) (seen_reg s 0 0)
+  unfolding execute
+  do_bltu_on rs1 rs2 imm h l1 l2 q =
+      let e0 : nat_lt (s.rf rs1) (s.rf rs2) ≡ false = le-ltb (s.rf rs1) (s.rf rs2) q in
+      view_reg (Bltu rs1 rs2 imm) h 0 0 (lit< tt) (lit< tt) (rw (reg_is rs1 l1, reg_is rs2 l2, e0) refl)
+
+  pub do_bgeu_taken : (rs1 rs2 imm to : ℕ) → At g s.pc (Bgeu rs1 rs2 imm) → rs1 < 32 → rs2 < 32 → s.rf rs2 ≤ s.rf rs1 → word_add s.pc (extend_13 imm) ≡ to → to % 4 ≡ 0 → Sees g (run_step r) (seen_jump s 0 0 to)
+  unfolding execute
+  do_bgeu_taken rs1 rs2 imm to h l1 l2 q e al =
+      let e0 : nat_lt (s.rf rs1) (s.rf rs2) ≡ false = le-ltb (s.rf rs1) (s.rf rs2) q in
+      let e1 : word_add r.state.pc (extend_13 imm) ≡ to = ap (λ p. word_add p (extend_13 imm)) v.shows.pc_is ∙ e in
+      let e2 : nat_eq (to % 4) 0 ≡ true = eq-eqb (to % 4) 0 al in
+      view_jump (Bgeu rs1 rs2 imm) h 0 0 to (lit< tt) (lit< tt) (rw (reg_is rs1 l1, reg_is rs2 l2, e0, e1, e2) refl)
+
+  pub do_bgeu_on : (rs1 rs2 imm : ℕ) → At g s.pc (Bgeu rs1 rs2 imm) → rs1 < 32 → rs2 < 32 → s.rf rs1 < s.rf rs2 → Sees g (run_step r) (seen_reg s 0 0)
+  unfolding execute
+  do_bgeu_on rs1 rs2 imm h l1 l2 q =
+      let e0 : nat_lt (s.rf rs1) (s.rf rs2) ≡ true = lt-ltb (s.rf rs1) (s.rf rs2) q in
+      view_reg (Bgeu rs1 rs2 imm) h 0 0 (lit< tt) (lit< tt) (rw (reg_is rs1 l1, reg_is rs2 l2, e0) refl)
+
+  -- the call that stops for room
+  pub do_stop : At g s.pc Ecall → s.rf 17 ≡ 5 → ((run_step r).status ≡ Stopped RoomUsed) × (trace g.names (run_step r).log ≡ s.trace)
+  unfolding execute environment_call
+  do_stop h a7 =
+      let e7 : reg r.state.regs 17 ≡ 5 = reg_is 17 (lit< tt) ∙ a7 in
+      let e : execute Ecall r.state ≡ Halts RoomUsed (with_reg r.state 0 0) = ap (λ a. environment_call a r.state) e7 in
+      let is : run_step r ≡ after r (Halts RoomUsed (with_reg r.state 0 0)) = stepped g r s v Ecall h ∙ ap (after r) e in
+      (ap (λ q. q.status) is, ap (λ q. trace g.names q.log) is ∙ silent g r s v Ecall h)
 
   -- a byte put
   pub do_put : (b : ℕ) → At g s.pc Ecall → s.rf 17 ≡ 1 → s.rf 10 ≡ b → b < 256 → Sees g (run_step r) (seen_put s b)

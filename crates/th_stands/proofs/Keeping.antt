@@ -87,7 +87,7 @@ module _ (p : Places) (q : Heap) (wf wg : ℕ → ℕ) (n : ℕ) (same : (i : �
 
   pub below_low : (below : Stack) (hp : ℕ) → hp + 6 ≤ n → Below p q wf below hp → Below p q wg below hp
   below_low Bottom hp le h = same hp (omega arith) ∙ h
-  below_low (Call u at st ls held loop below) hp le (fp, sb, hp2, (hd, fr, deep, order, lp, inner)) = (
+  below_low (Call u at st ls held loop below) hp le (fp, sb, hp2, (hd, fr, deep, order, fits, lp, inner)) = (
     fp,
     sb,
     hp2,
@@ -96,6 +96,7 @@ module _ (p : Places) (q : Heap) (wf wg : ℕ → ℕ) (n : ℕ) (same : (i : �
       frame_low u fp sb st ls (omega arith) fr,
       deep,
       order,
+      fits,
       loop_low hp fp loop le lp,
       held_low hp2 u fp sb held (λ h. Below p q wf below h) (λ h. Below p q wg below h) (omega arith) (omega arith) (let e = fr.stack_at in omega arith) (λ h lh b. below_low below h lh b) inner,
     ),

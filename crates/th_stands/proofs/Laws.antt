@@ -1,10 +1,10 @@
 -- The laws of rows, from those of what their words do.
 use Rattle.std.proofs.Common.{◌≡◌, ◌≢◌, ℕ, zero, suc, ◌+◌, ◌-◌, ◌*◌, ◌<◌, List, [], ◌∷◌, ◌++◌, length, Option, Some, None, Bool, true, false, nat_lt, nat_eq, refl, sym, ap, ◌∙◌, subst, ◌⊎◌, inl, inr, arith}
-use Rattle.std.specs.Prelude.{slice_get, set, IsTrue, ℤ, pos, negsuc, if◌then◌else◌, ◌+ℤ◌, ◌-ℤ◌}
+use Rattle.std.specs.Prelude.{slice_get, set, IsTrue, ℤ, pos, negsuc, if◌then◌else◌, ◌+ℤ◌, ◌-ℤ◌, ◌*ℤ◌}
 use Rattle.std.proofs.lemmas.Bool.{cases_Bool, lt-ltb, ltb-true, leb-true, ne_eqb}
 use Rattle.th_runs.specs.Stand.{Trapped}
 use Rattle.th_elf.specs.Run as elf
-use Rattle.th_meaning.specs.World.{fits_word, overflow, Stuck, Did, Fails, sum, difference}
+use Rattle.th_meaning.specs.World.{fits_word, overflow, Stuck, Did, Fails, sum, difference, product}
 use Rattle.th_flat.specs.declared.op.FlatOp.{FlatOp}
 use Rattle.th_flat.specs.declared.op.FlatOp.TheVariants.{OpWord, OpLocal, OpSet, OpDrop, OpArith, OpCompare, OpGo, OpUnless, OpTurn}
 use Rattle.th_flat.specs.declared.module.FlatUnit.{FlatUnit}
@@ -26,27 +26,27 @@ use Rattle.th_stands.specs.Law.{Leads}
 use Rattle.th_stands.specs.Laws.{Rule, Stands, RowLaw}
 use Rattle.th_stands.proofs.Rows.{nothing_law, go_law, local_law, word_law, unless_at, unless_on, unless_taken, set_at, set_law}
 use Rattle.th_stands.proofs.Compares.{compare_at, compare_law}
-use Rattle.th_stands.proofs.Sums.{op_of, number_of, sum_at, sum_fits_law, sum_over_law}
+use Rattle.th_stands.proofs.Sums.{Kind, Sum, Difference, Product, op_of, number_of, sum_at, sum_fits_law, sum_over_law}
 
 -- a row whose places are counted from the top of the stack, by the words that are left
-one_place : (F : ℕ → List PatternWord) (n m : ℕ) → n ≡ suc m → F (n - 1) ≡ F m
+pub one_place : (F : ℕ → List PatternWord) (n m : ℕ) → n ≡ suc m → F (n - 1) ≡ F m
 one_place F n m e = let e1 : n - 1 ≡ m = omega arith in ap F e1
 
-two_places : (F : ℕ → ℕ → List PatternWord) (n m : ℕ) → n ≡ suc (suc m) → F (n - 2) (n - 1) ≡ F m (suc m)
+pub two_places : (F : ℕ → ℕ → List PatternWord) (n m : ℕ) → n ≡ suc (suc m) → F (n - 2) (n - 1) ≡ F m (suc m)
 two_places F n m e =
     let e1 : n - 2 ≡ m = omega arith in
     let e2 : n - 1 ≡ suc m = omega arith in
     ap (λ i. F i (n - 1)) e1 ∙ ap (F m) e2
 
 -- the two topmost words are numbers
-record Ints (st : List FlatValue) : Type 0 where
-  x : ℤ
-  y : ℤ
-  rest : List FlatValue
-  is : st ≡ Int y ∷ Int x ∷ rest
+pub record Ints (st : List FlatValue) : Type 0 where
+  pub x : ℤ
+  pub y : ℤ
+  pub rest : List FlatValue
+  pub is : st ≡ Int y ∷ Int x ∷ rest
 
 -- an operation on two numbers is stuck where the two topmost words are something else
-two_numbers : (K : ℤ → ℤ → List FlatValue → Deed Act) (st : List FlatValue) → Ints st ⊎ (off_two st (λ a b st1. on_int a (λ x. on_int b (λ y. K x y st1))) ≡ stuck_act)
+pub two_numbers : (K : ℤ → ℤ → List FlatValue → Deed Act) (st : List FlatValue) → Ints st ⊎ (off_two st (λ a b st1. on_int a (λ x. on_int b (λ y. K x y st1))) ≡ stuck_act)
 two_numbers K [] = inr refl
 two_numbers K (v1 ∷ []) = inr refl
 two_numbers K (Int y ∷ Int x ∷ rest) = inl (record { x = x; y = y; rest = rest; is = refl })
@@ -68,35 +68,35 @@ two_numbers K (Code n ∷ Code unit ∷ rest) = inr refl
 
 module _ (program : FlatProgram) (p : Places) (used heap : ℕ) (u : FlatUnit) (at : ℕ) (loop : Loop) (h : Here) (below : Stack) (w : FlatWorld) (r : elf.Run) (s : Seen) (v : Sees p.loaded r s) (a : AtOp p used heap u at loop h Bottom below w s) (no_body : is_body u ≡ false) where
   -- what follows the operation
-  abbrev Next : Config
+  abbrev pub Next : Config
   Next = unpaid_step program (Run u at loop h Bottom below w)
 
   -- the effect of an operation on a stack
-  abbrev Effect : FlatOp → List FlatValue → Config
+  abbrev pub Effect : FlatOp → List FlatValue → Config
   Effect op st = finish program ((doing program op (self_of u h.locals) st h.status w).act w) (way_of op) (failure_of op) u at loop h Bottom below
 
-  next_is : (op : FlatOp) (st : List FlatValue) → slice_get u.ops at ≡ Some op → h.stack ≡ st → Next ≡ Effect op st
+  pub next_is : (op : FlatOp) (st : List FlatValue) → slice_get u.ops at ≡ Some op → h.stack ≡ st → Next ≡ Effect op st
   next_is op st e1 e2 = ap (λ o. (op_deed program o u at loop h Bottom below w).act w) e1 ∙ ap (λ l. Effect op l) e2
 
   -- the law's claim at a configuration that follows
-  abbrev Claim : (words : ℕ) → Config → Type 0
+  abbrev pub Claim : (words : ℕ) → Config → Type 0
   Claim words c = Leads p.loaded r words (Stands p used heap c)
 
-  claim : (words : ℕ) (c : Config) → Next ≡ c → Claim words c → Claim words Next
+  pub claim : (words : ℕ) (c : Config) → Next ≡ c → Claim words c → Claim words Next
   claim words c e l = subst (Claim words) (sym e) l
 
   -- a run that is stuck
-  never : (words : ℕ) (c : Config) → Next ≡ c → end_of_config c ≡ Trapped → end_of_config Next ≢ Trapped → Claim words Next
+  pub never : (words : ℕ) (c : Config) → Next ≡ c → end_of_config c ≡ Trapped → end_of_config Next ≢ Trapped → Claim words Next
   never words c e t ok = absurd (ok (ap end_of_config e ∙ t))
 
-  row_here : (op : FlatOp) (q : Rule p u at op (length h.stack)) → HasRow p.loaded s.pc q.to q.number (row op (length h.stack))
+  pub row_here : (op : FlatOp) (q : Rule p u at op (length h.stack)) → HasRow p.loaded s.pc q.to q.number (row op (length h.stack))
   row_here op q = subst (λ pc. HasRow p.loaded pc q.to q.number (row op (length h.stack))) (sym a.pc_is) q.row_is
 
   -- a way to a label within the unit
-  go_is : (l : ℕ) (h2 : Here) → l < length u.ops → go_to l u h2 Bottom below w ≡ Run u l NoLoop h2 Bottom below w
+  pub go_is : (l : ℕ) (h2 : Here) → l < length u.ops → go_to l u h2 Bottom below w ≡ Run u l NoLoop h2 Bottom below w
   go_is l h2 lt = let e : nat_lt l (length u.ops) ≡ true = lt-ltb l (length u.ops) lt in rw (e, no_body) refl
 
-  fail_is : (l : ℕ) (x : Status) → l < length u.ops → fail_to (Some l) u at x h.locals Bottom below w ≡ Run u l NoLoop (record { stack = []; locals = h.locals; status = x }) Bottom below w
+  pub fail_is : (l : ℕ) (x : Status) → l < length u.ops → fail_to (Some l) u at x h.locals Bottom below w ≡ Run u l NoLoop (record { stack = []; locals = h.locals; status = x }) Bottom below w
   fail_is l x lt =
       let e : nat_eq l (length u.ops) ≡ false = ne_eqb l (length u.ops) (λ q. omega arith) in
       let e2 : handler u at l ≡ Some l = rw e refl in
@@ -218,24 +218,31 @@ module _ (program : FlatProgram) (p : Places) (used heap : ℕ) (u : FlatUnit) (
       by_stack (inl i) = both i.x i.y i.rest i.is
       by_stack (inr e) = other e
 
-  -- a sum or a difference
-  effect_fits : (b : Bool) (x y : ℤ) (rest : List FlatValue) (l : ℕ) → fits_word (number_of b x y) ≡ true → Effect (OpArith (op_of b) l) (Int y ∷ Int x ∷ rest) ≡ Run u (at + 1) NoLoop (record { stack = Int (number_of b x y) ∷ rest; locals = h.locals; status = h.status }) Bottom below w
-  effect_fits true x y rest l e = ap (λ (t : Bool). finish program (push_number (if t then Did (x +ℤ y) w else Fails overflow w) rest h.status) None (Some l) u at loop h Bottom below) e
-  effect_fits false x y rest l e = ap (λ (t : Bool). finish program (push_number (if t then Did (x -ℤ y) w else Fails overflow w) rest h.status) None (Some l) u at loop h Bottom below) e
+  -- a sum, a difference or a product
+  effect_fits : (b : Kind) (x y : ℤ) (rest : List FlatValue) (l : ℕ) → fits_word (number_of b x y) ≡ true → Effect (OpArith (op_of b) l) (Int y ∷ Int x ∷ rest) ≡ Run u (at + 1) NoLoop (record { stack = Int (number_of b x y) ∷ rest; locals = h.locals; status = h.status }) Bottom below w
+  effect_fits Sum x y rest l e = ap (λ (t : Bool). finish program (push_number (if t then Did (x +ℤ y) w else Fails overflow w) rest h.status) None (Some l) u at loop h Bottom below) e
+  effect_fits Difference x y rest l e = ap (λ (t : Bool). finish program (push_number (if t then Did (x -ℤ y) w else Fails overflow w) rest h.status) None (Some l) u at loop h Bottom below) e
+  effect_fits Product x y rest l e = ap (λ (t : Bool). finish program (push_number (if t then Did (x *ℤ y) w else Fails overflow w) rest h.status) None (Some l) u at loop h Bottom below) e
 
-  effect_over : (b : Bool) (x y : ℤ) (rest : List FlatValue) (l : ℕ) → fits_word (number_of b x y) ≡ false → Effect (OpArith (op_of b) l) (Int y ∷ Int x ∷ rest) ≡ fail_to (Some l) u at (Thrown overflow None) h.locals Bottom below w
-  effect_over true x y rest l e = ap (λ (t : Bool). finish program (push_number (if t then Did (x +ℤ y) w else Fails overflow w) rest h.status) None (Some l) u at loop h Bottom below) e
-  effect_over false x y rest l e = ap (λ (t : Bool). finish program (push_number (if t then Did (x -ℤ y) w else Fails overflow w) rest h.status) None (Some l) u at loop h Bottom below) e
+  effect_over : (b : Kind) (x y : ℤ) (rest : List FlatValue) (l : ℕ) → fits_word (number_of b x y) ≡ false → Effect (OpArith (op_of b) l) (Int y ∷ Int x ∷ rest) ≡ fail_to (Some l) u at (Thrown overflow None) h.locals Bottom below w
+  effect_over Sum x y rest l e = ap (λ (t : Bool). finish program (push_number (if t then Did (x +ℤ y) w else Fails overflow w) rest h.status) None (Some l) u at loop h Bottom below) e
+  effect_over Difference x y rest l e = ap (λ (t : Bool). finish program (push_number (if t then Did (x -ℤ y) w else Fails overflow w) rest h.status) None (Some l) u at loop h Bottom below) e
+  effect_over Product x y rest l e = ap (λ (t : Bool). finish program (push_number (if t then Did (x *ℤ y) w else Fails overflow w) rest h.status) None (Some l) u at loop h Bottom below) e
 
-  sum_row : (b : Bool) (l : ℕ) (place : ℕ) → length h.stack ≡ suc (suc place) → row (OpArith (op_of b) l) (length h.stack) ≡ sum_at b place
-  sum_row true l place n = two_places (λ i j. fetched (home i) 5 ++ (fetched (home j) 6 ++ (checked_code 0 (register_of (home i) 5) (register_of (home j) 6) ++ (fail Overflow ++ (moved (home i) 7 ∷ []))))) (length h.stack) place n
-  sum_row false l place n = two_places (λ i j. fetched (home i) 5 ++ (fetched (home j) 6 ++ (checked_code 1 (register_of (home i) 5) (register_of (home j) 6) ++ (fail Overflow ++ (moved (home i) 7 ∷ []))))) (length h.stack) place n
+  abbrev checked_at : (g : ℕ) → ℕ → ℕ → List PatternWord
+  checked_at g i j = fetched (home i) 5 ++ (fetched (home j) 6 ++ (checked_code g (register_of (home i) 5) (register_of (home j) 6) ++ (fail Overflow ++ (moved (home i) 7 ∷ []))))
 
-  goes_on : (b : Bool) (l : ℕ) → IsTrue (shape_of (OpArith (op_of b) l)).next
-  goes_on true l = refl
-  goes_on false l = refl
+  sum_row : (b : Kind) (l : ℕ) (place : ℕ) → length h.stack ≡ suc (suc place) → row (OpArith (op_of b) l) (length h.stack) ≡ sum_at b place
+  sum_row Sum l place n = two_places (checked_at 0) (length h.stack) place n
+  sum_row Difference l place n = two_places (checked_at 1) (length h.stack) place n
+  sum_row Product l place n = two_places (checked_at 2) (length h.stack) place n
 
-  sum_step : (b : Bool) (l : ℕ) (x y : ℤ) (rest : List FlatValue) → Rule p u at (OpArith (op_of b) l) (length h.stack) → h.stack ≡ Int y ∷ Int x ∷ rest → Claim (length (row (OpArith (op_of b) l) (length h.stack))) Next
+  goes_on : (b : Kind) (l : ℕ) → IsTrue (shape_of (OpArith (op_of b) l)).next
+  goes_on Sum l = refl
+  goes_on Difference l = refl
+  goes_on Product l = refl
+
+  sum_step : (b : Kind) (l : ℕ) (x y : ℤ) (rest : List FlatValue) → Rule p u at (OpArith (op_of b) l) (length h.stack) → h.stack ≡ Int y ∷ Int x ∷ rest → Claim (length (row (OpArith (op_of b) l) (length h.stack))) Next
   sum_step b l x y rest q e = by_fit (cases_Bool (fits_word (number_of b x y)))
     where
       by_fit : (fits_word (number_of b x y) ≡ true) ⊎ (fits_word (number_of b x y) ≡ false) → Claim (length (row (OpArith (op_of b) l) (length h.stack))) Next
@@ -258,17 +265,19 @@ module _ (program : FlatProgram) (p : Places) (used heap : ℕ) (u : FlatUnit) (
           (subst (HasRow p.loaded s.pc q.to q.number) row_is (row_here (OpArith (op_of b) l) q)) to.aligned to.below to.there (q.named Overflow)))
 
   -- what an operation on two numbers does with them
-  abbrev Gives : (b : Bool) → ℤ → ℤ → List FlatValue → Deed Act
-  Gives true x y st = free (λ w1. push_number (sum x y w1) st h.status)
-  Gives false x y st = free (λ w1. push_number (difference x y w1) st h.status)
+  abbrev Gives : (b : Kind) → ℤ → ℤ → List FlatValue → Deed Act
+  Gives Sum x y st = free (λ w1. push_number (sum x y w1) st h.status)
+  Gives Difference x y st = free (λ w1. push_number (difference x y w1) st h.status)
+  Gives Product x y st = free (λ w1. push_number (product x y w1) st h.status)
 
-  arith_step : (b : Bool) (l : ℕ) → Rule p u at (OpArith (op_of b) l) (length h.stack) → end_of_config Next ≢ Trapped → Claim (length (row (OpArith (op_of b) l) (length h.stack))) Next
+  arith_step : (b : Kind) (l : ℕ) → Rule p u at (OpArith (op_of b) l) (length h.stack) → end_of_config Next ≢ Trapped → Claim (length (row (OpArith (op_of b) l) (length h.stack))) Next
   arith_step b l q ok = by_stack b q (two_numbers (Gives b) h.stack)
     where
-      by_stack : (b : Bool) → Rule p u at (OpArith (op_of b) l) (length h.stack) → Ints h.stack ⊎ (off_two h.stack (λ b1 c0 st1. on_int b1 (λ x. on_int c0 (λ y. Gives b x y st1))) ≡ stuck_act) → Claim (length (row (OpArith (op_of b) l) (length h.stack))) Next
+      by_stack : (b : Kind) → Rule p u at (OpArith (op_of b) l) (length h.stack) → Ints h.stack ⊎ (off_two h.stack (λ b1 c0 st1. on_int b1 (λ x. on_int c0 (λ y. Gives b x y st1))) ≡ stuck_act) → Claim (length (row (OpArith (op_of b) l) (length h.stack))) Next
       by_stack b q (inl i) = sum_step b l i.x i.y i.rest q i.is
-      by_stack true q (inr e) = never _ (Over (Halts Stuck) w) (next_is (OpArith 0 l) h.stack q.op_is refl ∙ ap (λ (d : Deed Act). finish program (d.act w) None (Some l) u at loop h Bottom below) e) refl ok
-      by_stack false q (inr e) = never _ (Over (Halts Stuck) w) (next_is (OpArith 1 l) h.stack q.op_is refl ∙ ap (λ (d : Deed Act). finish program (d.act w) None (Some l) u at loop h Bottom below) e) refl ok
+      by_stack Sum q (inr e) = never _ (Over (Halts Stuck) w) (next_is (OpArith 0 l) h.stack q.op_is refl ∙ ap (λ (d : Deed Act). finish program (d.act w) None (Some l) u at loop h Bottom below) e) refl ok
+      by_stack Difference q (inr e) = never _ (Over (Halts Stuck) w) (next_is (OpArith 1 l) h.stack q.op_is refl ∙ ap (λ (d : Deed Act). finish program (d.act w) None (Some l) u at loop h Bottom below) e) refl ok
+      by_stack Product q (inr e) = never _ (Over (Halts Stuck) w) (next_is (OpArith 2 l) h.stack q.op_is refl ∙ ap (λ (d : Deed Act). finish program (d.act w) None (Some l) u at loop h Bottom below) e) refl ok
 
 pub word_row_law : (n : ℕ) → n < 4294967296 → RowLaw (OpWord n)
 word_row_law n lt program p used heap u at loop h below w r s q nb v a ok = word_step program p used heap u at loop h below w r s v a nb n lt q
@@ -295,7 +304,10 @@ pub compare_row_law : (c : ℕ) → RowLaw (OpCompare c)
 compare_row_law c program p used heap u at loop h below w r s q nb v a ok = compare_step program p used heap u at loop h below w r s v a nb c q ok
 
 pub add_row_law : (l : ℕ) → RowLaw (OpArith 0 l)
-add_row_law l program p used heap u at loop h below w r s q nb v a ok = arith_step program p used heap u at loop h below w r s v a nb true l q ok
+add_row_law l program p used heap u at loop h below w r s q nb v a ok = arith_step program p used heap u at loop h below w r s v a nb Sum l q ok
 
 pub subtract_row_law : (l : ℕ) → RowLaw (OpArith 1 l)
-subtract_row_law l program p used heap u at loop h below w r s q nb v a ok = arith_step program p used heap u at loop h below w r s v a nb false l q ok
+subtract_row_law l program p used heap u at loop h below w r s q nb v a ok = arith_step program p used heap u at loop h below w r s v a nb Difference l q ok
+
+pub multiply_row_law : (l : ℕ) → RowLaw (OpArith 2 l)
+multiply_row_law l program p used heap u at loop h below w r s q nb v a ok = arith_step program p used heap u at loop h below w r s v a nb Product l q ok

@@ -4,11 +4,16 @@ pub mod Sequences
 pub mod Keeping
 pub mod Restand
 pub mod Signed
+pub mod Products
+pub mod Numerals
 pub mod Rows
 pub mod Compares
 pub mod Failing
 pub mod Sums
+pub mod Divisions
 pub mod Laws
 pub mod Outside
 pub mod Opposite
+pub mod PutInt
+pub mod PutInts
 pub mod MoreLaws

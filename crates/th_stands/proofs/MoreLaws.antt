@@ -1,39 +1,37 @@
--- The laws of the rows of the opposite and of bytes put and taken.
-use Rattle.std.proofs.Common.{◌≡◌, ◌≢◌, ℕ, suc, ◌+◌, ◌-◌, ◌*◌, ◌<◌, List, [], ◌∷◌, length, Some, None, Bool, true, false, nat_lt, nat_eq, refl, sym, ap, ◌∙◌, subst, ◌⊎◌, inl, inr, ⊎_elim, arith}
-use Rattle.std.specs.Prelude.{slice_get, ℤ, pos, negsuc, if◌then◌else◌, neg_ℤ}
+-- The laws of the rows of the opposite, of quotients and remainders, and of bytes put and taken.
+use Rattle.std.proofs.Common.{◌≡◌, ◌≢◌, ℕ, suc, ◌+◌, ◌*◌, ◌<◌, List, [], ◌∷◌, ◌++◌, length, Some, None, Bool, true, false, nat_lt, nat_eq, refl, sym, ap, ◌∙◌, subst, ◌⊎◌, inl, inr, ⊎_elim, arith}
+use Rattle.std.specs.Prelude.{slice_get, ℤ, pos, negsuc, if◌then◌else◌, neg_ℤ, int_div, int_rem, IsTrue}
 use Rattle.std.proofs.lemmas.Bool.{cases_Bool, lt-ltb, ltb-true, ltb-false, ne_eqb}
+use Rattle.std.specs.Fmt.{signed_decimal}
 use Rattle.th_world.specs.Event.{Put, Took, FoundEnd}
 use Rattle.th_runs.specs.Stand.{Trapped}
 use Rattle.th_elf.specs.Run as elf
-use Rattle.th_meaning.specs.World.{fits_word, overflow, bounds, end_of_input, Did, Fails, note, take_of}
+use Rattle.th_meaning.specs.World.{fits_word, is_zero, overflow, zero_divide, bounds, end_of_input, Did, Fails, Stuck, unless_overflow, quotient, remainder, put_all, note, take_of}
 use Rattle.th_flat.specs.declared.op.FlatOp.{FlatOp}
-use Rattle.th_flat.specs.declared.op.FlatOp.TheVariants.{OpArith, OpPutbyte, OpGet}
+use Rattle.th_flat.specs.declared.op.FlatOp.TheVariants.{OpArith, OpPutbyte, OpPutint, OpGet}
 use Rattle.th_flat.specs.declared.module.FlatUnit.{FlatUnit}
 use Rattle.th_flat.specs.Values.{FlatValue, Int, Ref, Text, Code, FlatWorld, Status, Thrown}
 use Rattle.th_flat.specs.Program.{FlatProgram}
-use Rattle.th_flat.specs.Deeds.{Act, Falls, Deed, stuck_act, on_effect, off_two, on_int, push_number, doing}
-use Rattle.th_flat.specs.Configs.{Loop, NoLoop, Here, Stack, Bottom, Config, Run, self_of, is_body, way_of, failure_of, go_to, handler, fail_to, finish, op_deed}
-use Rattle.th_flat.specs.Runs.{end_of_config, unpaid_step}
+use Rattle.th_flat.specs.Deeds.{Act, Falls, Deed, free, stuck_act, on_effect, off_two, on_int, push_number, doing}
+use Rattle.th_flat.specs.Effects.{shape_of}
+use Rattle.th_flat.specs.Configs.{Loop, NoLoop, Here, Stack, Bottom, Halts, Config, Run, Over, self_of, is_body, handler, fail_to, finish, op_deed}
+use Rattle.th_flat.specs.Runs.{end_of_config, turns_of, cost}
 use Rattle.th_abi.specs.declared.word.PatternWord.{PatternWord}
-use Rattle.th_abi.specs.declared.word.Failure.TheVariants.{Overflow, Bounds, EndOfInput}
+use Rattle.th_abi.specs.declared.word.Failure.TheVariants.{Overflow, ZeroDivide, Bounds, EndOfInput}
+use Rattle.th_abi.specs.Sequences.{home, register_of, fetched, moved}
+use Rattle.th_abi.specs.Numbers.{division, division_tests}
 use Rattle.th_abi.specs.Table.{row}
 use Rattle.th_stands.specs.Seen.{Seen, Sees}
 use Rattle.th_stands.specs.Places.{HasRow}
 use Rattle.th_stands.specs.Stands.{Places, AtOp}
-use Rattle.th_stands.specs.Law.{Leads}
-use Rattle.th_stands.specs.Laws.{Rule, Stands, RowLaw}
+use Rattle.th_stands.specs.Law.{LeadsLater}
+use Rattle.th_stands.specs.Laws.{Rule, Stands, RowLaw, PutIntLaw}
+use Rattle.th_stands.proofs.Laws as laws
+use Rattle.th_stands.proofs.Laws.{one_place, two_places, Ints, two_numbers}
+use Rattle.th_stands.proofs.Divisions.{op_of, number_of, division_at, division_law, division_zero_law, division_over_law}
 use Rattle.th_stands.proofs.Opposite.{opposite_at, opposite_fits_law, opposite_over_law}
+use Rattle.th_stands.proofs.PutInts.{put_int_at, put_int_law}
 use Rattle.th_stands.proofs.Outside.{put_at, put_some, put_over, get_some, get_none}
-
--- a row whose places are counted from the top of the stack, by the words that are left
-one_place : (F : ℕ → List PatternWord) (n m : ℕ) → n ≡ suc m → F (n - 1) ≡ F m
-one_place F n m e = let e1 : n - 1 ≡ m = omega arith in ap F e1
-
-two_places : (F : ℕ → ℕ → List PatternWord) (n m : ℕ) → n ≡ suc (suc m) → F (n - 2) (n - 1) ≡ F m (suc m)
-two_places F n m e =
-    let e1 : n - 2 ≡ m = omega arith in
-    let e2 : n - 1 ≡ suc m = omega arith in
-    ap (λ i. F i (n - 1)) e1 ∙ ap (F m) e2
 
 no_byte_number : (n k : ℕ) → nat_lt n 256 ≡ false → k < 256 → pos n ≡ pos k → ⊥
 no_byte_number n k f lt z = let le = ltb-false n 256 f in let e : n ≡ k = same_number z in omega arith
@@ -44,69 +42,33 @@ no_byte_number n k f lt z = let le = ltb-false n 256 f in let e : n ≡ k = same
 no_byte_negative : (n k : ℕ) → negsuc n ≡ pos k → ⊥
 no_byte_negative n k z = cc
 
--- the two topmost words are numbers
-record Ints (st : List FlatValue) : Type 0 where
-  x : ℤ
-  y : ℤ
-  rest : List FlatValue
-  is : st ≡ Int y ∷ Int x ∷ rest
-
--- an operation on two numbers is stuck where the two topmost words are something else
-two_numbers : (K : ℤ → ℤ → List FlatValue → Deed Act) (st : List FlatValue) → Ints st ⊎ (off_two st (λ a b st1. on_int a (λ x. on_int b (λ y. K x y st1))) ≡ stuck_act)
-two_numbers K [] = inr refl
-two_numbers K (v1 ∷ []) = inr refl
-two_numbers K (Int y ∷ Int x ∷ rest) = inl (record { x = x; y = y; rest = rest; is = refl })
-two_numbers K (Int y ∷ Ref k view ∷ rest) = inr refl
-two_numbers K (Int y ∷ Text bytes ∷ rest) = inr refl
-two_numbers K (Int y ∷ Code unit ∷ rest) = inr refl
-two_numbers K (Ref j vw ∷ Int x ∷ rest) = inr refl
-two_numbers K (Ref j vw ∷ Ref k view ∷ rest) = inr refl
-two_numbers K (Ref j vw ∷ Text bytes ∷ rest) = inr refl
-two_numbers K (Ref j vw ∷ Code unit ∷ rest) = inr refl
-two_numbers K (Text b ∷ Int x ∷ rest) = inr refl
-two_numbers K (Text b ∷ Ref k view ∷ rest) = inr refl
-two_numbers K (Text b ∷ Text bytes ∷ rest) = inr refl
-two_numbers K (Text b ∷ Code unit ∷ rest) = inr refl
-two_numbers K (Code n ∷ Int x ∷ rest) = inr refl
-two_numbers K (Code n ∷ Ref k view ∷ rest) = inr refl
-two_numbers K (Code n ∷ Text bytes ∷ rest) = inr refl
-two_numbers K (Code n ∷ Code unit ∷ rest) = inr refl
-
 module _ (program : FlatProgram) (p : Places) (used heap : ℕ) (u : FlatUnit) (at : ℕ) (loop : Loop) (h : Here) (below : Stack) (w : FlatWorld) (r : elf.Run) (s : Seen) (v : Sees p.loaded r s) (a : AtOp p used heap u at loop h Bottom below w s) (no_body : is_body u ≡ false) where
-  -- what follows the operation
   abbrev Next : Config
-  Next = unpaid_step program (Run u at loop h Bottom below w)
+  Next = laws.Next program p used heap u at loop h below w r s v a no_body
 
-  -- the effect of an operation on a stack
   abbrev Effect : FlatOp → List FlatValue → Config
-  Effect op st = finish program ((doing program op (self_of u h.locals) st h.status w).act w) (way_of op) (failure_of op) u at loop h Bottom below
+  Effect = laws.Effect program p used heap u at loop h below w r s v a no_body
+
+  abbrev Claim : (words : ℕ) → Config → Type 0
+  Claim = laws.Claim program p used heap u at loop h below w r s v a no_body
+
+  abbrev Cost : FlatProgram → ℕ
+  Cost q = cost q (Run u at loop h Bottom below w)
 
   next_is : (op : FlatOp) (st : List FlatValue) → slice_get u.ops at ≡ Some op → h.stack ≡ st → Next ≡ Effect op st
-  next_is op st e1 e2 = ap (λ o. (op_deed program o u at loop h Bottom below w).act w) e1 ∙ ap (λ l. Effect op l) e2
-
-  -- the law's claim at a configuration that follows
-  abbrev Claim : (words : ℕ) → Config → Type 0
-  Claim words c = Leads p.loaded r words (Stands p used heap c)
+  next_is = laws.next_is program p used heap u at loop h below w r s v a no_body
 
   claim : (words : ℕ) (c : Config) → Next ≡ c → Claim words c → Claim words Next
-  claim words c e l = subst (Claim words) (sym e) l
+  claim = laws.claim program p used heap u at loop h below w r s v a no_body
 
-  -- a run that is stuck
   never : (words : ℕ) (c : Config) → Next ≡ c → end_of_config c ≡ Trapped → end_of_config Next ≢ Trapped → Claim words Next
-  never words c e t ok = absurd (ok (ap end_of_config e ∙ t))
+  never = laws.never program p used heap u at loop h below w r s v a no_body
 
   row_here : (op : FlatOp) (q : Rule p u at op (length h.stack)) → HasRow p.loaded s.pc q.to q.number (row op (length h.stack))
-  row_here op q = subst (λ pc. HasRow p.loaded pc q.to q.number (row op (length h.stack))) (sym a.pc_is) q.row_is
-
-  -- a way to a label within the unit
-  go_is : (l : ℕ) (h2 : Here) → l < length u.ops → go_to l u h2 Bottom below w ≡ Run u l NoLoop h2 Bottom below w
-  go_is l h2 lt = let e : nat_lt l (length u.ops) ≡ true = lt-ltb l (length u.ops) lt in rw (e, no_body) refl
+  row_here = laws.row_here program p used heap u at loop h below w r s v a no_body
 
   fail_is : (l : ℕ) (x : Status) → l < length u.ops → fail_to (Some l) u at x h.locals Bottom below w ≡ Run u l NoLoop (record { stack = []; locals = h.locals; status = x }) Bottom below w
-  fail_is l x lt =
-      let e : nat_eq l (length u.ops) ≡ false = ne_eqb l (length u.ops) (λ q. omega arith) in
-      let e2 : handler u at l ≡ Some l = rw e refl in
-      rw e2 (go_is l (record { stack = []; locals = h.locals; status = x }) lt)
+  fail_is = laws.fail_is program p used heap u at loop h below w r s v a no_body
 
   fail_in : (l : ℕ) (x : Status) → l < length u.ops → (w2 : FlatWorld) → fail_to (Some l) u at x h.locals Bottom below w2 ≡ Run u l NoLoop (record { stack = []; locals = h.locals; status = x }) Bottom below w2
   fail_in l x lt w2 =
@@ -151,6 +113,79 @@ module _ (program : FlatProgram) (p : Places) (used heap : ℕ) (u : FlatUnit) (
       by_stack (Text bytes ∷ rest) e = never _ _ (next_is (OpArith 5 l) (Text bytes ∷ rest) q.op_is e) refl ok
       by_stack (Code unit ∷ rest) e = never _ _ (next_is (OpArith 5 l) (Code unit ∷ rest) q.op_is e) refl ok
 
+  -- a quotient or a remainder
+  division_zero : (b : Bool) (x y : ℤ) (rest : List FlatValue) (l : ℕ) → is_zero y ≡ true → Effect (OpArith (op_of b) l) (Int y ∷ Int x ∷ rest) ≡ fail_to (Some l) u at (Thrown zero_divide None) h.locals Bottom below w
+  division_zero true x y rest l e = ap (λ (t : Bool). finish program (push_number (if t then Fails zero_divide w else unless_overflow (int_div x y) (int_div x y) w) rest h.status) None (Some l) u at loop h Bottom below) e
+  division_zero false x y rest l e = ap (λ (t : Bool). finish program (push_number (if t then Fails zero_divide w else unless_overflow (int_div x y) (int_rem x y) w) rest h.status) None (Some l) u at loop h Bottom below) e
+
+  division_fits : (b t : Bool) (x y : ℤ) (rest : List FlatValue) (l : ℕ) → is_zero y ≡ false → fits_word (int_div x y) ≡ t
+      → Effect (OpArith (op_of b) l) (Int y ∷ Int x ∷ rest) ≡ finish program (push_number (if t then Did (number_of b x y) w else Fails overflow w) rest h.status) None (Some l) u at loop h Bottom below
+  division_fits true t x y rest l e f =
+      ap (λ (z : Bool). finish program (push_number (if z then Fails zero_divide w else unless_overflow (int_div x y) (int_div x y) w) rest h.status) None (Some l) u at loop h Bottom below) e
+      ∙ ap (λ (z : Bool). finish program (push_number (if z then Did (int_div x y) w else Fails overflow w) rest h.status) None (Some l) u at loop h Bottom below) f
+  division_fits false t x y rest l e f =
+      ap (λ (z : Bool). finish program (push_number (if z then Fails zero_divide w else unless_overflow (int_div x y) (int_rem x y) w) rest h.status) None (Some l) u at loop h Bottom below) e
+      ∙ ap (λ (z : Bool). finish program (push_number (if z then Did (int_rem x y) w else Fails overflow w) rest h.status) None (Some l) u at loop h Bottom below) f
+
+  abbrev quotient_row : (b : Bool) → ℕ → ℕ → List PatternWord
+  quotient_row b i j = fetched (home i) 5 ++ (fetched (home j) 6 ++ (division_tests (register_of (home i) 5) (register_of (home j) 6) ++ (division b (register_of (home i) 5) (register_of (home j) 6) ∷ (moved (home i) 7 ∷ []))))
+
+  row_of : (b : Bool) (l place : ℕ) → length h.stack ≡ suc (suc place) → row (OpArith (op_of b) l) (length h.stack) ≡ division_at b place
+  row_of true l place n = two_places (quotient_row true) (length h.stack) place n
+  row_of false l place n = two_places (quotient_row false) (length h.stack) place n
+
+  goes_on : (b : Bool) (l : ℕ) → IsTrue (shape_of (OpArith (op_of b) l)).next
+  goes_on true l = refl
+  goes_on false l = refl
+
+  division_step : (b : Bool) (l : ℕ) (x y : ℤ) (rest : List FlatValue) → Rule p u at (OpArith (op_of b) l) (length h.stack) → h.stack ≡ Int y ∷ Int x ∷ rest → Claim (length (row (OpArith (op_of b) l) (length h.stack))) Next
+  division_step b l x y rest q e = by_divisor (cases_Bool (is_zero y))
+    where
+      n : length h.stack ≡ suc (suc (length rest))
+      n = ap length e
+
+      here : HasRow p.loaded s.pc q.to q.number (division_at b (length rest))
+      here = subst (HasRow p.loaded s.pc q.to q.number) (row_of b l (length rest) n) (row_here (OpArith (op_of b) l) q)
+
+      by_size : (is_zero y ≡ false) → (fits_word (int_div x y) ≡ true) ⊎ (fits_word (int_div x y) ≡ false) → Claim (length (row (OpArith (op_of b) l) (length h.stack))) Next
+      by_size nz (inl f) =
+          let k1 = q.deep in
+          let k2 = q.limit in
+          let n1 = n in
+          let c2 : Config = Run u (at + 1) NoLoop (record { stack = Int (number_of b x y) ∷ rest; locals = h.locals; status = h.status }) Bottom below w in
+          claim _ c2 (next_is (OpArith (op_of b) l) (Int y ∷ Int x ∷ rest) q.op_is e ∙ division_fits b true x y rest l nz f) (subst (λ m. Claim (length m) c2) (sym (row_of b l (length rest) n)) (division_law p used heap u at loop h below w r s v a q.to q.number b x y rest e nz f (omega arith) (omega arith) here
+          (q.next_is (goes_on b l) ∙ ap (λ m. p.op_at u.name at + 4 * length m) (row_of b l (length rest) n))))
+      by_size nz (inr f) =
+          let k1 = q.deep in
+          let k2 = q.limit in
+          let n1 = n in
+          let to = q.failure_is l refl in
+          let c2 : Config = Run u l NoLoop (record { stack = []; locals = h.locals; status = Thrown overflow None }) Bottom below w in
+          claim _ c2 (next_is (OpArith (op_of b) l) (Int y ∷ Int x ∷ rest) q.op_is e ∙ division_fits b false x y rest l nz f ∙ fail_is l (Thrown overflow None) to.inside) (subst (λ m. Claim (length m) c2) (sym (row_of b l (length rest) n)) (division_over_law p used heap u at loop h below w r s v a q.to q.number b x y rest l e f (omega arith) (omega arith) here to.aligned to.below to.there (q.named Overflow)))
+
+      by_divisor : (is_zero y ≡ true) ⊎ (is_zero y ≡ false) → Claim (length (row (OpArith (op_of b) l) (length h.stack))) Next
+      by_divisor (inr nz) = by_size nz (cases_Bool (fits_word (int_div x y)))
+      by_divisor (inl z) =
+          let k1 = q.deep in
+          let k2 = q.limit in
+          let n1 = n in
+          let to = q.failure_is l refl in
+          let c2 : Config = Run u l NoLoop (record { stack = []; locals = h.locals; status = Thrown zero_divide None }) Bottom below w in
+          claim _ c2 (next_is (OpArith (op_of b) l) (Int y ∷ Int x ∷ rest) q.op_is e ∙ division_zero b x y rest l z ∙ fail_is l (Thrown zero_divide None) to.inside) (subst (λ m. Claim (length m) c2) (sym (row_of b l (length rest) n)) (division_zero_law p used heap u at loop h below w r s v a q.to q.number b x y rest l e z (omega arith) (omega arith) here to.aligned to.below to.there (q.named ZeroDivide)))
+
+  -- what an operation on two numbers does with them
+  abbrev Gives : (b : Bool) → ℤ → ℤ → List FlatValue → Deed Act
+  Gives true x y st = free (λ w1. push_number (quotient x y w1) st h.status)
+  Gives false x y st = free (λ w1. push_number (remainder x y w1) st h.status)
+
+  divide_step : (b : Bool) (l : ℕ) → Rule p u at (OpArith (op_of b) l) (length h.stack) → end_of_config Next ≢ Trapped → Claim (length (row (OpArith (op_of b) l) (length h.stack))) Next
+  divide_step b l q ok = by_stack b q (two_numbers (Gives b) h.stack)
+    where
+      by_stack : (b : Bool) → Rule p u at (OpArith (op_of b) l) (length h.stack) → Ints h.stack ⊎ (off_two h.stack (λ b1 c0 st1. on_int b1 (λ x. on_int c0 (λ y. Gives b x y st1))) ≡ stuck_act) → Claim (length (row (OpArith (op_of b) l) (length h.stack))) Next
+      by_stack b q (inl i) = division_step b l i.x i.y i.rest q i.is
+      by_stack true q (inr e) = never _ (Over (Halts Stuck) w) (next_is (OpArith 3 l) h.stack q.op_is refl ∙ ap (λ (d : Deed Act). finish program (d.act w) None (Some l) u at loop h Bottom below) e) refl ok
+      by_stack false q (inr e) = never _ (Over (Halts Stuck) w) (next_is (OpArith 4 l) h.stack q.op_is refl ∙ ap (λ (d : Deed Act). finish program (d.act w) None (Some l) u at loop h Bottom below) e) refl ok
+
   -- a byte put
   put_effect : (n : ℕ) (b : Bool) (rest : List FlatValue) (l : ℕ) → nat_lt n 256 ≡ b → Effect (OpPutbyte l) (Int (pos n) ∷ rest) ≡ finish program (on_effect {A = Unit {0}} (if b then Did tt (note (Put n) w) else Fails bounds w) (λ _ w2. Falls rest h.status w2)) None (Some l) u at loop h Bottom below
   put_effect n b rest l e = ap (λ (t : Bool). finish program (on_effect {A = Unit {0}} (if t then Did tt (note (Put n) w) else Fails bounds w) (λ _ w2. Falls rest h.status w2)) None (Some l) u at loop h Bottom below) e
@@ -190,6 +225,33 @@ module _ (program : FlatProgram) (p : Places) (used heap : ℕ) (u : FlatUnit) (
       by_stack (Text bytes ∷ rest) e = never _ _ (next_is (OpPutbyte l) (Text bytes ∷ rest) q.op_is e) refl ok
       by_stack (Code unit ∷ rest) e = never _ _ (next_is (OpPutbyte l) (Code unit ∷ rest) q.op_is e) refl ok
 
+  -- a number put in decimal
+  put_int_step : Rule p u at OpPutint (length h.stack) → end_of_config Next ≢ Trapped → LeadsLater p.loaded r (Cost program) (10 * Cost program) (Stands p used heap Next)
+  put_int_step q ok = by_stack h.stack refl
+    where
+      claim_later : (turns : ℕ) (c : Config) → Cost program ≡ turns → Next ≡ c → LeadsLater p.loaded r turns (10 * turns) (Stands p used heap c) → LeadsLater p.loaded r (Cost program) (10 * Cost program) (Stands p used heap Next)
+      claim_later turns c e1 e2 l = subst (λ t. LeadsLater p.loaded r t (10 * t) (Stands p used heap Next)) (sym e1) (subst (λ d. LeadsLater p.loaded r turns (10 * turns) (Stands p used heap d)) (sym e2) l)
+
+      cost_is : (st : List FlatValue) → h.stack ≡ st → Cost program ≡ turns_of (doing program OpPutint (self_of u h.locals) st h.status w).charge
+      cost_is st e = ap (λ o. turns_of (op_deed program o u at loop h Bottom below w).charge) q.op_is ∙ ap (λ l. turns_of (doing program OpPutint (self_of u h.locals) l h.status w).charge) e
+
+      never_later : (c : Config) → Next ≡ c → end_of_config c ≡ Trapped → LeadsLater p.loaded r (Cost program) (10 * Cost program) (Stands p used heap Next)
+      never_later c e t = absurd (ok (ap end_of_config e ∙ t))
+
+      by_stack : (st : List FlatValue) → h.stack ≡ st → LeadsLater p.loaded r (Cost program) (10 * Cost program) (Stands p used heap Next)
+      by_stack [] e = never_later _ (next_is OpPutint [] q.op_is e) refl
+      by_stack (Int x ∷ rest) e =
+          let k1 = q.deep in
+          let k2 = q.limit in
+          let m : length h.stack ≡ suc (length rest) = ap length e in
+          let row_is : row OpPutint (length h.stack) ≡ put_int_at (length rest) = one_place put_int_at (length h.stack) (length rest) m in
+          let c2 : Config = Run u (at + 1) NoLoop (record { stack = rest; locals = h.locals; status = h.status }) Bottom below (put_all (signed_decimal x) w) in
+          claim_later (length (signed_decimal x) + 1) c2 (cost_is (Int x ∷ rest) e) (next_is OpPutint (Int x ∷ rest) q.op_is e) (put_int_law p used heap u at loop h below w r s v a q.to q.number x rest e (omega arith) (omega arith)
+          (subst (HasRow p.loaded s.pc q.to q.number) row_is (row_here OpPutint q)) (q.next_is refl ∙ ap (λ k. p.op_at u.name at + 4 * length k) row_is))
+      by_stack (Ref k view ∷ rest) e = never_later _ (next_is OpPutint (Ref k view ∷ rest) q.op_is e) refl
+      by_stack (Text bytes ∷ rest) e = never_later _ (next_is OpPutint (Text bytes ∷ rest) q.op_is e) refl
+      by_stack (Code unit ∷ rest) e = never_later _ (next_is OpPutint (Code unit ∷ rest) q.op_is e) refl
+
   -- a byte taken
   get_step : (l : ℕ) → Rule p u at (OpGet l) (length h.stack) → Claim (length (row (OpGet l) (length h.stack))) Next
   get_step l q = by_input w.input refl
@@ -218,3 +280,12 @@ get_row_law l program p used heap u at loop h below w r s q nb v a ok = get_step
 
 pub opposite_row_law : (l : ℕ) → RowLaw (OpArith 5 l)
 opposite_row_law l program p used heap u at loop h below w r s q nb v a ok = opposite_step program p used heap u at loop h below w r s v a nb l q ok
+
+pub divide_row_law : (l : ℕ) → RowLaw (OpArith 3 l)
+divide_row_law l program p used heap u at loop h below w r s q nb v a ok = divide_step program p used heap u at loop h below w r s v a nb true l q ok
+
+pub remainder_row_law : (l : ℕ) → RowLaw (OpArith 4 l)
+remainder_row_law l program p used heap u at loop h below w r s q nb v a ok = divide_step program p used heap u at loop h below w r s v a nb false l q ok
+
+pub put_int_row_law : PutIntLaw
+put_int_row_law program p used heap u at loop h below w r s q nb v a ok = put_int_step program p used heap u at loop h below w r s v a nb q ok

@@ -46,7 +46,7 @@ six_more : (n : ℕ) → n + 6 ≡ suc (n + 5)
 six_more n = omega arith
 
 -- a word that means a number that isn't negative
-word_of_byte : (c n : ℕ) → signed c ≡ pos n → c ≡ n
+pub word_of_byte : (c n : ℕ) → signed c ≡ pos n → c ≡ n
 word_of_byte c n e = ⊎_elim low high (cases_lt c 2147483648)
   where
     low : c < 2147483648 → c ≡ n

@@ -4,13 +4,14 @@ use Rattle.th_runs.specs.Stand.{Trapped}
 use Rattle.th_elf.specs.Run as elf
 use Rattle.th_meaning.specs.World.{overflow, zero_divide, bounds, end_of_input}
 use Rattle.th_flat.specs.declared.op.FlatOp.{FlatOp}
+use Rattle.th_flat.specs.declared.op.FlatOp.TheVariants.{OpPutint}
 use Rattle.th_flat.specs.declared.module.FlatUnit.{FlatUnit}
 use Rattle.th_flat.specs.Values.{FlatWorld}
 use Rattle.th_flat.specs.Program.{FlatProgram}
 use Rattle.th_flat.specs.Effects.{shape_of}
 use Rattle.th_flat.specs.WellFormed.{in_range}
 use Rattle.th_flat.specs.Configs.{Loop, Here, Stack, Bottom, Config, Run, Entering, Visiting, Returned, Putting, Over, words_of, is_body, way_of, failure_of}
-use Rattle.th_flat.specs.Runs.{end_of_config, unpaid_step}
+use Rattle.th_flat.specs.Runs.{end_of_config, unpaid_step, cost}
 use Rattle.th_abi.specs.declared.word.RelocKind.{RelocKind}
 use Rattle.th_abi.specs.declared.word.RelocKind.TheVariants as reloc
 use Rattle.th_abi.specs.declared.word.Failure.{Failure}
@@ -18,8 +19,8 @@ use Rattle.th_abi.specs.declared.word.Failure.TheVariants.{Overflow, ZeroDivide,
 use Rattle.th_abi.specs.Table.{row}
 use Rattle.th_stands.specs.Seen.{Seen, Sees}
 use Rattle.th_stands.specs.Places.{HasRow}
-use Rattle.th_stands.specs.Stands.{Places, AtOp}
-use Rattle.th_stands.specs.Law.{Leads}
+use Rattle.th_stands.specs.Stands.{Places, AtOp, EnterAt, ReturnedAt}
+use Rattle.th_stands.specs.Law.{Leads, LeadsLater}
 
 -- the name of the exception of a failure
 abbrev pub failure_name : Failure → List ℕ
@@ -52,12 +53,12 @@ pub record Rule (p : Places) (u : FlatUnit) (at : ℕ) (op : FlatOp) (height : �
   pub limit : u.depth ≤ 400
   pub words : words_of u ≤ 417
 
--- a state stands for a configuration; of the others it is still to be said
+-- a state stands for a configuration; of loop bodies before their room, of texts that are put and of runs that are over it is still to be said
 abbrev pub Stands : Places → (used heap : ℕ) → Config → Seen → Type 0
 Stands p used heap (Run u at loop h held below w) s = AtOp p used heap u at loop h held below w s
-Stands p used heap (Entering u args below w) s = ⊥
+Stands p used heap (Entering u args below w) s = EnterAt p used heap u args below w s
 Stands p used heap (Visiting v u at ls held below w) s = ⊥
-Stands p used heap (Returned x v below w) s = ⊥
+Stands p used heap (Returned x v below w) s = ReturnedAt p heap x v below w s
 Stands p used heap (Putting bytes u at h held below w) s = ⊥
 Stands p used heap (Over e w) s = ⊥
 
@@ -69,3 +70,12 @@ RowLaw op =
     → Rule p u at op (length h.stack) → is_body u ≡ false → Sees p.loaded r s → AtOp p used heap u at loop h Bottom below w s
     → end_of_config (unpaid_step program (Run u at loop h Bottom below w)) ≢ Trapped
     → Leads p.loaded r (length (row op (length h.stack))) (Stands p used heap (unpaid_step program (Run u at loop h Bottom below w)))
+
+-- the law of the row that puts a number, which takes a turn for each byte and one more before the first of them: its words are executed some times, but
+-- at most ten instructions for each turn, and nothing is seen before as many instructions as it takes turns
+abbrev pub PutIntLaw : Type 0
+PutIntLaw =
+    (program : FlatProgram) (p : Places) (used heap : ℕ) (u : FlatUnit) (at : ℕ) (loop : Loop) (h : Here) (below : Stack) (w : FlatWorld) (r : elf.Run) (s : Seen)
+    → Rule p u at OpPutint (length h.stack) → is_body u ≡ false → Sees p.loaded r s → AtOp p used heap u at loop h Bottom below w s
+    → end_of_config (unpaid_step program (Run u at loop h Bottom below w)) ≢ Trapped
+    → LeadsLater p.loaded r (cost program (Run u at loop h Bottom below w)) (10 * cost program (Run u at loop h Bottom below w)) (Stands p used heap (unpaid_step program (Run u at loop h Bottom below w)))

@@ -36,3 +36,15 @@ relocated number (Some kind) failure word = with_number kind (number kind failur
 abbrev pub HasRow : Loaded → (at to : ℕ) → (number : RelocKind → Option Failure → ℕ) → List PatternWord → Type 0
 HasRow g at to number [] = Unit {0}
 HasRow g at to number (w ∷ row) = HasWord g at (with_label w.label at to (relocated number w.reloc w.failure w.word)) × HasRow g (at + 4) to number row
+
+-- the image has this word at an address, where a unit of this name begins
+pub record HasFirst (g : Loaded) (at word : ℕ) (name : List ℕ) : Type 0 where
+  pub fetched : number_at 4 1 g.areas at ≡ Some word
+  pub aligned : at % 4 ≡ 0
+  pub below : at + 4 ≤ 268435456
+  pub named : g.names at ≡ Some name
+
+-- the words of a row stand from an address on, where a unit of this name begins
+abbrev pub HasEntry : Loaded → (at : ℕ) → (name : List ℕ) → List PatternWord → Type 0
+HasEntry g at name [] = ⊥
+HasEntry g at name (w ∷ row) = HasFirst g at w.word name × HasRow g (at + 4) at (λ kind failure. 0) row

@@ -1,7 +1,8 @@
 -- When a state of the machine stands for a configuration of Flat code: where values, frames and headers of activations stand.
-use Rattle.std.specs.Prelude.{◌≡◌, ℕ, ◌+◌, ◌-◌, ◌*◌, ◌<◌, ◌≤◌, List, [], ◌∷◌, length, Option, Some, None, nat_eq, slice_get, if◌then◌else◌}
+use Rattle.std.specs.Prelude.{◌≡◌, ℕ, ◌+◌, ◌-◌, ◌*◌, ◌<◌, ◌≤◌, List, [], ◌∷◌, length, Option, Some, None, cond, nat_eq, slice_get, if◌then◌else◌}
 use Rattle.th_flat.specs.declared.module.FlatUnit.{FlatUnit}
 use Rattle.th_flat.specs.Values.{View, FlatValue, Int, Ref, Text, Code, FlatWorld, Status, Fine, Thrown, IsStopped, signed}
+use Rattle.th_flat.specs.Runs.{room_below}
 use Rattle.th_flat.specs.Configs.{Loop, NoLoop, Upto, ByUnit, Here, Stack, Bottom, Call, Paused, words_of, home_unit}
 use Rattle.th_meaning.specs.World.{Object}
 use Rattle.th_abi.specs.declared.word.Home.{Home}
@@ -64,6 +65,14 @@ pub record HeaderIs (wf : ℕ → ℕ) (hp back fp sb below : ℕ) : Type 0 wher
   pub stack_is : wf (hp + 2) ≡ word_address sb
   pub header_is : wf (hp + 3) ≡ word_address below
 
+-- how many words stay free above a unit's frame, for the frame of a supply stub and for a bridge, or for a bridge alone
+abbrev pub spare_of : FlatUnit → ℕ
+spare_of u = if nat_eq u.kind 6 then 8 else 34
+
+-- above word `top`, where the frames of a unit end, its spare words are free, and up to there frames take no more than the room of the open calls
+abbrev pub Spares : Heap → FlatUnit → (top room : ℕ) → Type 0
+Spares q u top room = (top + spare_of u ≤ q.low) × (4 * (top + spare_of u) ≤ room)
+
 module _ (p : Places) (q : Heap) where
   -- the header of an iterator's frame has the loop body of its call, and the local words of the loop's home
   abbrev pub LoopIs : (wf : ℕ → ℕ) → (hp fp : ℕ) → Loop → Type 0
@@ -85,7 +94,7 @@ module _ (p : Places) (q : Heap) where
   abbrev pub Below : (wf : ℕ → ℕ) → (below : Stack) → (hp : ℕ) → Type 0
   Below wf Bottom hp = wf hp ≡ p.start_back
   Below wf (Call u at st ls held loop below) hp =
-      (fp sb hp2 : ℕ) × (HeaderIs wf hp (p.back_at u.name at) fp sb hp2 × FrameIs p q wf u fp sb st ls × (sb + u.depth ≤ hp) × (hp2 + 4 ≤ hp) × LoopIs wf hp fp loop
+      (fp sb hp2 : ℕ) × (HeaderIs wf hp (p.back_at u.name at) fp sb hp2 × FrameIs p q wf u fp sb st ls × (sb + u.depth ≤ hp) × (hp2 + 4 ≤ hp) × Spares q u hp (room_below (Call u at st ls held loop below)) × LoopIs wf hp fp loop
       × Held wf hp2 u fp sb held (λ h. Below wf below h))
   Below wf (Paused it at st ls holds home loop rest) hp = ⊥
 
@@ -101,10 +110,6 @@ cell_of (Frame k) s sb = s.wf (sb + k)
 
 abbrev pub cell : Seen → (sb : ℕ) → (place : ℕ) → ℕ
 cell s sb place = cell_of (home place) s sb
-
--- how many words stay free above a unit's frame, for the frame of a supply stub and for a bridge, or for a bridge alone
-abbrev pub spare_of : FlatUnit → ℕ
-spare_of u = if nat_eq u.kind 6 then 8 else 34
 
 -- the loop body of the next call stands in its registers
 abbrev pub LoopNext : Places → Seen → Loop → Type 0
@@ -149,4 +154,55 @@ pub record AtOp (p : Places) (used heap : ℕ) (u : FlatUnit) (at : ℕ) (loop :
   pub works : Works p heap_at s u fp sb hp top h held below
   pub loop_is : LoopNext p s loop
   pub room_is : 4 * (top + spare_of u) ≤ used
+  pub world_is : WorldIs p heap_at s w heap
+
+-- words with one changed
+abbrev pub with_word : (ℕ → ℕ) → (at x : ℕ) → ℕ → ℕ
+with_word wf at x i = cond (nat_eq i at) x (wf i)
+
+-- the words after a header was written at the end of all open frames: where the activation returns to, and the local words, the stack and the header of
+-- the unit at work
+abbrev pub headed : Seen → (top : ℕ) → ℕ → ℕ
+headed s top = with_word (with_word (with_word (with_word s.wf top (s.rf 1)) (top + 1) (s.rf 8)) (top + 2) (s.rf 9)) (top + 3) (s.rf 3)
+
+-- a state that stands for a unit before its entry: its operands stand behind the place of its header
+pub record EnterAt (p : Places) (used heap : ℕ) (u : FlatUnit) (args : List FlatValue) (below : Stack) (w : FlatWorld) (s : Seen) : Type 0 where
+  pub heap_at : Heap
+  pub top : ℕ
+  pub pc_is : s.pc ≡ p.unit_at u.name
+  pub top_reg : s.rf 27 ≡ word_address top
+  pub limit_reg : s.rf 26 ≡ word_address heap_at.low
+  pub fine : s.rf 24 ≡ 0
+  pub count : length args ≡ u.args
+  pub args_are : (i : ℕ) (v : FlatValue) → slice_get args i ≡ Some v → Means p heap_at v (s.wf (top + 6 + i))
+  pub below_is : Below p heap_at (headed s top) below top
+  pub within : top ≤ heap_at.low
+  pub limited : heap_at.low ≤ p.loaded.size
+  pub room_is : 4 * top ≤ used
+  pub world_is : WorldIs p heap_at s w heap
+
+-- the registers of an activation that goes on after a call, where the one above it had its header at hp
+abbrev pub BackIn : Places → Heap → Seen → (below : Stack) → (hp : ℕ) → Type 0
+BackIn p q s Bottom hp = s.pc ≡ p.start_back
+BackIn p q s (Call u at st ls held loop below) hp =
+    (fp sb hp2 : ℕ) × ((s.pc ≡ p.back_at u.name at) × (s.rf 8 ≡ word_address fp) × (s.rf 9 ≡ word_address sb) × (s.rf 3 ≡ word_address hp2) × FrameIs p q s.wf u fp sb st ls × (sb + u.depth ≤ hp) × (hp2 + 4 ≤ hp)
+    × Spares q u hp (room_below (Call u at st ls held loop below)) × LoopIs p q s.wf hp fp loop × Held p q s.wf hp2 u fp sb held (λ h. Below p q s.wf below h))
+BackIn p q s (Paused it at st ls holds home loop rest) hp = ⊥
+
+-- the value word means the value of an activation that gave one
+abbrev pub ValueIs : Places → Heap → Option FlatValue → ℕ → Type 0
+ValueIs p q None x = Unit {0}
+ValueIs p q (Some v) x = Means p q v x
+
+-- a state that stands for the end of an activation
+pub record ReturnedAt (p : Places) (heap : ℕ) (x : Status) (v : Option FlatValue) (below : Stack) (w : FlatWorld) (s : Seen) : Type 0 where
+  pub heap_at : Heap
+  pub hp : ℕ
+  pub top_reg : s.rf 27 ≡ word_address hp
+  pub limit_reg : s.rf 26 ≡ word_address heap_at.low
+  pub within : hp ≤ heap_at.low
+  pub limited : heap_at.low ≤ p.loaded.size
+  pub status_is : StatusIs p heap_at x (s.rf 24) (s.rf 25)
+  pub value_is : ValueIs p heap_at v (s.rf 25)
+  pub back_is : BackIn p heap_at s below hp
   pub world_is : WorldIs p heap_at s w heap

@@ -3,7 +3,7 @@
 
 ghost use Rattle.std.specs.Prelude.{ℕ, ◌^◌, ◌<◌};
 ghost use Rattle.th_flat.specs.declared.op.FlatOp.TheVariants.{OpWord, OpLocal, OpSet, OpDrop, OpArith, OpCompare, OpGo, OpUnless, OpTurn, OpPutbyte, OpGet};
-ghost use Rattle.th_stands.specs.Laws.{RowLaw};
+ghost use Rattle.th_stands.specs.Laws.{RowLaw, PutIntLaw};
 
 /// The rows of operations on local words and numbers do what the operations do: from a state that stands for a unit at the
 /// operation their words lead to a state that stands for the configuration after it, trap-free, and they are at most as
@@ -16,6 +16,9 @@ pub fn number_laws()
     ensures compares { (g : ℕ) → RowLaw (OpCompare g) }
     ensures sums { (l : ℕ) → RowLaw (OpArith 0 l) }
     ensures differences { (l : ℕ) → RowLaw (OpArith 1 l) }
+    ensures products { (l : ℕ) → RowLaw (OpArith 2 l) }
+    ensures quotients { (l : ℕ) → RowLaw (OpArith 3 l) }
+    ensures remainders { (l : ℕ) → RowLaw (OpArith 4 l) }
     ensures opposites { (l : ℕ) → RowLaw (OpArith 5 l) }
 {}
 
@@ -26,8 +29,9 @@ pub fn way_laws()
     ensures turns { RowLaw OpTurn }
 {}
 
-/// The same of the rows that put a byte and take one.
+/// The same of the rows that put a byte and take one, and the law of the row that puts a number (`PutIntLaw`).
 pub fn outside_laws()
     ensures puts { (l : ℕ) → RowLaw (OpPutbyte l) }
     ensures gets { (l : ℕ) → RowLaw (OpGet l) }
+    ensures numbers { PutIntLaw }
 {}
