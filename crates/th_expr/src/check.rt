@@ -18,7 +18,7 @@ use crate::walk::walk_expr;
 use std::alloc::Global;
 use th_calls::{CalledPart, Wish};
 use th_meaning::{CoreCall, CoreExpr};
-use th_scope::{Env, Handled};
+use th_scope::{Env, Handled, Signals};
 use th_tree::Expr;
 use th_type::{Sig, Ty};
 use th_typed::Typed;
@@ -42,7 +42,8 @@ pub fn check_expr(alloc: Global, env: &Env<'_>, tree: &Expr) -> Result<(CoreExpr
 {
     let mut least = None;
     let mut raised = None;
-    let handled = Handled::Listed(&[]);
+    let signals = Signals::new(alloc);
+    let handled = Handled::Listed(&signals);
     let found = match walk_expr(
         alloc,
         tree,
@@ -77,7 +78,8 @@ pub fn check_call(alloc: Global, env: &Env<'_>, tree: &Expr) -> Result<(CoreCall
 {
     let mut least = None;
     let mut raised = None;
-    let handled = Handled::Listed(&[]);
+    let signals = Signals::new(alloc);
+    let handled = Handled::Listed(&signals);
     let at = place_at(env, start(tree));
     let found = match walk_call(
         alloc,

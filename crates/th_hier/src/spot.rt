@@ -1,4 +1,4 @@
-//! Names that differ within their list. docs/LANGUAGE.md, "Names that differ", states the rules.
+//! Names that differ within their list. docs/LANGUAGE.md, "Names and scopes", states the rules.
 ghost use Rattle.std.specs.Prelude.{◌≡◌, [], map, IfOk, OnOk};
 ghost use Rattle.th_tree.specs.View.{formal_of};
 ghost use Rattle.th_tree.specs.DeclView.{sig_of, interface_item_of};

@@ -6,12 +6,12 @@ ghost use Rattle.th_type.specs.Types.{ty_of};
 ghost use Rattle.th_hier.specs.Views.{sig_opt};
 ghost use Rattle.th_module_rules.specs.Initializers.{inherited_init};
 ghost use Rattle.th_module_rules.specs.Modules.{inherited_at, inherits_fails, is_inherited_supplied};
-ghost use Rattle.th_scope.specs.View.{context_of, handled_of};
+ghost use Rattle.th_scope.specs.View.{context_of};
 ghost use Rattle.th_inits.specs.View.{above_opt};
 
 use std::alloc::{AllocError, Global};
 use th_expr::place_at;
-use th_scope::{ClassItem, Env, Handled, sig_with};
+use th_scope::{ClassItem, Env, sig_with};
 use th_supply::supplies_of;
 use th_tree::NamedTree;
 use th_type::{Failure, Sig, Ty, TyList, demand};
@@ -39,13 +39,6 @@ pub fn above_of<'a>(env: &Env<'a>, inherits: &'a Option<Ty>) -> Option<Above<'a>
         class,
         args,
     })
-}
-
-/// The exceptions that the unit lists.
-pub fn listed<'a>(env: &Env<'a>) -> Handled<'a>
-    ensures { handled_of result ≡ (context_of env.now).sig.signals }
-{
-    Handled::Listed(env.sig.signals.as_slice())
 }
 
 /// The signature of the initializer of the class above, with the arguments substituted.

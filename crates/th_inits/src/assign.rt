@@ -12,11 +12,10 @@ ghost use Rattle.th_scope.specs.View.{binding_of, context_of, locals_of};
 ghost use Rattle.th_stmt_forms.specs.View.{body_opt, stmt_opt};
 ghost use Rattle.th_expr.specs.View.{given_of, typed_opt};
 
-use crate::above::listed;
 use std::alloc::{AllocError, Global};
 use th_expr::{GivenOne, Typed, give_opt, is_fit, place_at, start, walk_expr};
 use th_meaning::{CoreBody, CoreStmt};
-use th_scope::{Env, Local, LocalList, spelled};
+use th_scope::{Env, Handled, Local, LocalList, Signals, spelled};
 use th_stmt_forms::{boxed, turned_body, with_stmt};
 use th_tree::FieldAssign;
 use th_type::{Failure, demand};
@@ -59,7 +58,7 @@ fn assign_to(
     }
 }
 
-/// Judges an assignment of an initializer of the class with these fields.
+/// Judges an assignment of an initializer of the class with these fields, which lists these exceptions.
 #[tactic(auto, using(th_type::proofs::Least::lowest_append))]
 fn walk_assign(
     alloc: Global,
@@ -67,14 +66,16 @@ fn walk_assign(
     env: &Env<'_>,
     class: u32,
     fields: &LocalList,
+    signals: &Signals,
     least: &mut Option<Failure>,
     raised: &mut Option<Failure>,
 ) -> Result<Option<Box<CoreStmt>>, AllocError>
+    requires { signals.now ≡ (context_of env.now).sig.signals }
     ensures core { IfOk result (λ r. stmt_opt r ≡ assign_stmt (context_of env.now) (locals_of env.now.locals) (name_at env.now.names.now class) (locals_of fields.now) (field_assign_of tree.now)) }
     ensures least { OnOk result (least.new ≡ lowest least.old (assign_fails (context_of env.now) (locals_of env.now.locals) (locals_of fields.now) (field_assign_of tree.now))) }
     ensures raised { OnOk result (raised.new ≡ lowest raised.old (raises (context_of env.now) (locals_of env.now.locals) (context_of env.now).sig.signals (field_assign_of tree.now).value)) }
 {
-    let handled = listed(env);
+    let handled = Handled::Listed(signals);
     let value = walk_expr(
         alloc,
         &tree.value,
@@ -90,8 +91,8 @@ fn walk_assign(
     assign_to(alloc, env, class, field, given)
 }
 
-/// Judges the assignments of an initializer of the class with these fields: its statements, after those that are done, which
-/// are the other way round.
+/// Judges the assignments of an initializer of the class with these fields, which lists these exceptions: its statements, after
+/// those that are done, which are the other way round.
 #[tactic(auto, using(th_type::proofs::Least::lowest_append, crate::proofs::Onto::stmts_step))]
 pub fn walk_assigns(
     alloc: Global,
@@ -99,17 +100,19 @@ pub fn walk_assigns(
     env: &Env<'_>,
     class: u32,
     fields: &LocalList,
+    signals: &Signals,
     before: Option<CoreBody>,
     least: &mut Option<Failure>,
     raised: &mut Option<Failure>,
 ) -> Result<Option<CoreBody>, AllocError>
+    requires { signals.now ≡ (context_of env.now).sig.signals }
     ensures core { IfOk result (λ r. body_opt r ≡ both_parts stmts_onto (body_opt before) (assigns_core (context_of env.now) (locals_of env.now.locals) (name_at env.now.names.now class) (locals_of fields.now) (map field_assign_of tree.now))) }
     ensures least { OnOk result (least.new ≡ lowest least.old (assigns_fail (context_of env.now) (locals_of env.now.locals) (locals_of fields.now) (map field_assign_of tree.now))) }
     ensures raised { OnOk result (raised.new ≡ lowest raised.old (assigns_raise (context_of env.now) (locals_of env.now.locals) (map field_assign_of tree.now))) }
 {
     let mut done = before;
     for assign in tree {
-        let stmt = walk_assign(alloc, assign, env, class, fields, least, raised)?;
+        let stmt = walk_assign(alloc, assign, env, class, fields, signals, least, raised)?;
         done = with_stmt(alloc, stmt, done)?;
     }
     Ok(turned_body(done))

@@ -15,7 +15,7 @@ use crate::shape::judge_shape;
 use crate::super_call::walk_super;
 use std::alloc::{AllocError, Global};
 use th_meaning::CoreBody;
-use th_scope::{ClassItem, Env};
+use th_scope::{ClassItem, Env, Signals};
 use th_tree::InitTree;
 use th_type::Failure;
 
@@ -38,13 +38,23 @@ pub fn walk_init(
 {
     judge_shape(env, tree, class, least);
     let above = above_of(env, &class.inherits);
-    let begun = walk_super(alloc, &tree.super_call, env, &above, least, raised)?;
+    let signals = Signals::of(alloc, env.sig.signals.as_slice())?;
+    let begun = walk_super(
+        alloc,
+        &tree.super_call,
+        env,
+        &above,
+        &signals,
+        least,
+        raised,
+    )?;
     walk_assigns(
         alloc,
         &tree.assigns,
         env,
         full,
         &class.fields,
+        &signals,
         begun,
         least,
         raised,

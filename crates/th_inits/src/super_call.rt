@@ -16,11 +16,11 @@ ghost use Rattle.th_stmt_forms.specs.View.{body_opt, stmt_opt};
 ghost use Rattle.th_inits.specs.View.{above_of as above_is, above_opt};
 ghost use Rattle.th_inits.specs.Supers.{arguments_given, begun, super_given};
 
-use crate::above::{Above, init_above, listed};
+use crate::above::{Above, init_above};
 use std::alloc::{AllocError, Global};
 use th_expr::{GivenAll, TypedList, place_at, walk_args};
 use th_meaning::{CoreBody, CoreCall, CoreStmt, CoreSupply};
-use th_scope::{Env, Handled, core_types, spelled};
+use th_scope::{Env, Handled, Signals, core_types, spelled};
 use th_stmt_forms::{boxed, with_stmt};
 use th_supply::supplies_of;
 use th_tree::SuperCall;
@@ -110,22 +110,24 @@ fn super_given(
     super_stmt(alloc, env, above, supplies, args)
 }
 
-/// Judges a super call.
+/// Judges a super call of an initializer that lists these exceptions.
 #[tactic(auto, using(th_type::proofs::Least::lowest_append, crate::proofs::Supers::given_is))]
 fn walk_call(
     alloc: Global,
     tree: &SuperCall,
     env: &Env<'_>,
     above: &Option<Above<'_>>,
+    signals: &Signals,
     least: &mut Option<Failure>,
     raised: &mut Option<Failure>,
 ) -> Result<Option<Box<CoreStmt>>, AllocError>
+    requires { signals.now ≡ (context_of env.now).sig.signals }
     ensures core { IfOk result (λ r. stmt_opt r ≡ super_stmt_of (context_of env.now) (locals_of env.now.locals) (above_opt above.now) (super_call_of tree.now)) }
     ensures least { OnOk result (least.new ≡ lowest least.old (super_call_fails (context_of env.now) (locals_of env.now.locals) (above_opt above.now) (Some (super_call_of tree.now)))) }
     ensures raised { OnOk result (raised.new ≡ lowest raised.old (super_call_raises (context_of env.now) (locals_of env.now.locals) (above_opt above.now) (Some (super_call_of tree.now)))) }
 {
     let at = place_at(env, tree.at);
-    let handled = listed(env);
+    let handled = Handled::Listed(signals);
     let init = init_above(alloc, above)?;
     judge_init(raised, &handled, &init, at);
     let args = walk_args(alloc, &tree.args, env, &env.locals, &handled, least, raised)?;
@@ -133,15 +135,17 @@ fn walk_call(
     super_given(alloc, env, above, given)
 }
 
-/// Judges the super call of an initializer, where it has one: the statements that it begins with.
+/// Judges the super call of an initializer that lists these exceptions, where it has one: the statements that it begins with.
 pub fn walk_super(
     alloc: Global,
     tree: &Option<SuperCall>,
     env: &Env<'_>,
     above: &Option<Above<'_>>,
+    signals: &Signals,
     least: &mut Option<Failure>,
     raised: &mut Option<Failure>,
 ) -> Result<Option<CoreBody>, AllocError>
+    requires { signals.now ≡ (context_of env.now).sig.signals }
     ensures core { IfOk result (λ r. body_opt r ≡ begun (context_of env.now) (locals_of env.now.locals) (above_opt above.now) (option_of super_call_of tree.now)) }
     ensures least { OnOk result (least.new ≡ lowest least.old (super_call_fails (context_of env.now) (locals_of env.now.locals) (above_opt above.now) (option_of super_call_of tree.now))) }
     ensures raised { OnOk result (raised.new ≡ lowest raised.old (super_call_raises (context_of env.now) (locals_of env.now.locals) (above_opt above.now) (option_of super_call_of tree.now))) }
@@ -149,7 +153,7 @@ pub fn walk_super(
     match tree {
         None => Ok(Some(CoreBody::NoStmt)),
         Some(call) => {
-            let stmt = walk_call(alloc, call, env, above, least, raised)?;
+            let stmt = walk_call(alloc, call, env, above, signals, least, raised)?;
             with_stmt(alloc, stmt, Some(CoreBody::NoStmt))
         }
     }

@@ -1,4 +1,4 @@
-//! Checked expressions. docs/LANGUAGE.md, "What programs do", states what each of them does.
+//! Checked expressions. docs/LANGUAGE.md, "What a program does", states what each of them does.
 //!
 //! A list of expressions is empty, or an expression and the rest. An expression has a height of at most 600; lists may
 //! have any length, so they are walked and dropped by loops.

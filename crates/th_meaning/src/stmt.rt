@@ -1,4 +1,4 @@
-//! Checked statements. docs/LANGUAGE.md, "What programs do", states what each of them does.
+//! Checked statements. docs/LANGUAGE.md, "What a program does", states what each of them does.
 //!
 //! Statements, `elseif`s and handlers are lists that may have any length; they are walked and dropped by loops. A
 //! statement has a height of at most 600.

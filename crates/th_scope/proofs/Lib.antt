@@ -2,3 +2,4 @@ pub mod Walking
 pub mod Deciding
 pub mod Climb
 pub mod Places
+pub mod Different

@@ -1,4 +1,4 @@
-//! Subtypes, the methods of types and those that a class knows. docs/LANGUAGE.md, "Subtypes" and "Rules of classes", states them.
+//! Subtypes, the methods of types and those that a class knows. docs/LANGUAGE.md, "Subtypes" and "Rules of modules", states them.
 ghost use Rattle.std.specs.Prelude.{◌≡◌, IfOk, suc, map, option_map};
 ghost use Rattle.th_type.specs.Types.{ty_of};
 ghost use Rattle.th_type.specs.Signatures.{find_sig, sig_of};

@@ -3,26 +3,15 @@ ghost use Rattle.std.specs.Prelude.{◌≡◌};
 ghost use Rattle.th_type.specs.Lists.{is_in};
 ghost use Rattle.th_scope.specs.View.{handled_of};
 
+use crate::signals::Signals;
 use th_hier::Numbers;
 
 /// The exceptions, by the numbers of their full names, that are handled around a place or listed by the unit: those that the
 /// unit lists, or those that a block handles and those around it.
 #[derive(Clone, Copy)]
 pub enum Handled<'a> {
-    Listed(&'a [u32]),
+    Listed(&'a Signals),
     Block(&'a Numbers, &'a Handled<'a>),
-}
-
-/// Whether the number is one of them.
-fn is_listed(numbers: &[u32], number: u32) -> bool
-    ensures { result ≡ is_in number numbers.now }
-{
-    for other in numbers {
-        if number == *other {
-            return true;
-        }
-    }
-    false
 }
 
 impl<'a> Handled<'a> {
@@ -34,7 +23,7 @@ impl<'a> Handled<'a> {
         let mut rest = self;
         loop {
             match rest {
-                Handled::Listed(numbers) => return is_listed(numbers, number),
+                Handled::Listed(signals) => return signals.has(number),
                 Handled::Block(numbers, others) => {
                     if numbers.has(number) {
                         return true;

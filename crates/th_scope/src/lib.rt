@@ -11,6 +11,7 @@ mod local;
 mod lookup;
 mod naming;
 mod resolve;
+mod signals;
 mod spell;
 mod subst;
 
@@ -23,5 +24,6 @@ pub use items::Items;
 pub use local::{Local, LocalList};
 pub use naming::{Meant, meaning, referent, referent_of};
 pub use resolve::{has_count, walk_type, walk_types};
+pub use signals::Signals;
 pub use spell::{core_type, core_types, spelled};
 pub use subst::{argument, sig_with, substituted, substituted_list};

@@ -14,7 +14,7 @@ use crate::walk::walk_body;
 use std::alloc::{AllocError, Global};
 use th_expr::RuleError;
 use th_meaning::CoreBody;
-use th_scope::{Env, Handled};
+use th_scope::{Env, Handled, Signals};
 use th_stmt_parts::copied;
 use th_tree::Body;
 use th_type::{Failure, demand};
@@ -40,7 +40,8 @@ pub fn walk_unit(
     ensures least { OnOk result (least.new ≡ lowest least.old (unit_fails (context_of env.now) (locals_of env.now.locals) (tree_of tree.now))) }
 {
     let (mut locals, mut next) = copied(alloc, &env.locals)?;
-    let handled = Handled::Listed(env.sig.signals.as_slice());
+    let signals = Signals::of(alloc, env.sig.signals.as_slice())?;
+    let handled = Handled::Listed(&signals);
     let mut raised = None;
     let body = walk_body(
         alloc,
