@@ -13,9 +13,12 @@ fn words_of(alloc: Global, text: &str) -> Result<Vec<String>, AllocError> {
     Ok(words)
 }
 
-/// Words that are the command `go`, and its two names.
+/// Words that are the command `go`, the name of its executable, and the names of its texts with blanks between them.
 const GO: &[(&str, &str, &str)] = &[
     ("go a b", "a", "b"),
+    ("go a b c", "a", "b c"),
+    ("go a c b - c a", "a", "c b - c a"),
+    ("go a b ", "a", "b "),
     ("go - -", "-", "-"),
     ("go a a", "a", "a"),
     ("go go run", "go", "run"),
@@ -25,16 +28,31 @@ const GO: &[(&str, &str, &str)] = &[
 
 #[test]
 fn go(rt: HostRuntime) -> Result<(), Fail> {
-    for &(text, wanted_out, wanted_file) in GO {
+    for &(text, wanted_out, wanted_files) in GO {
         let words = words_of(rt.alloc(), text)?;
+        let wanted = words_of(rt.alloc(), wanted_files)?;
         match command(&words) {
-            Some(Command::Go { out, file }) => assert_eq!(rt;
-                (out, file),
-                (wanted_out, wanted_file),
-                "{text}"
-            ),
+            Some(Command::Go { out, files }) => {
+                assert_eq!(rt; out, wanted_out, "{text}");
+                assert!(rt; files == wanted.as_slice(), "{text}");
+            }
             _ => assert!(rt; false, "{text}"),
         }
+    }
+    Ok(())
+}
+
+/// How many files are named behind `go out`, and whether the words are a command.
+const COUNTS: &[(u32, bool)] = &[(0, false), (1, true), (63, true), (64, true), (65, false)];
+
+#[test]
+fn counts(rt: HostRuntime) -> Result<(), Fail> {
+    for &(count, wanted) in COUNTS {
+        let mut words = words_of(rt.alloc(), "go out")?;
+        for _file in 0..count {
+            words.push("m.tm".to_string(rt.alloc())?)?;
+        }
+        assert_eq!(rt; command(&words).is_some(), wanted, "{count}");
     }
     Ok(())
 }
@@ -123,9 +141,13 @@ const NONE: &[&str] = &[
     "GO a b",
     "go",
     "go a",
-    "go a b c",
     "go -a b",
     "go a -b",
+    "go a b -c",
+    "go a b --",
+    "go a b -- c",
+    "headers a",
+    "headers a b",
     "go -- b",
     "go -- a b",
     "go --steps=5 a b",

@@ -7,11 +7,12 @@ use std::test::Fail;
 use th_top::theta;
 use th_world::{MemFiles, MemSink, MemSource};
 
-/// The files and streams of a call: the text of `m.tm`, how many writes there is room for, and the
+/// The files and streams of a call: the text of `m.tm`, further files, how many writes there is room for, and the
 /// numbers of the calls that fail of the output and of the report.
 #[derive(Clone, Copy)]
 struct Given<'a> {
     text: &'a [u8],
+    others: &'a [(&'a str, &'a [u8])],
     spare: u32,
     output_fails: &'a [u64],
     report_fails: &'a [u64],
@@ -21,6 +22,7 @@ struct Given<'a> {
 fn nothing_fails(text: &[u8]) -> Given<'_> {
     Given {
         text,
+        others: &[],
         spare: 9,
         output_fails: &[],
         report_fails: &[],
@@ -42,7 +44,10 @@ fn answers(
     for word in words {
         list.push(word.to_string(alloc)?)?;
     }
-    let contents = vec![in alloc; ("m.tm".to_string(alloc)?, given.text.to_vec(alloc)?)]?;
+    let mut contents = vec![in alloc; ("m.tm".to_string(alloc)?, given.text.to_vec(alloc)?)]?;
+    for &(name, text) in given.others {
+        contents.push((name.to_string(alloc)?, text.to_vec(alloc)?))?;
+    }
     let mut files = MemFiles::new(alloc, contents, given.spare, Vec::new(alloc))?;
     let mut input = MemSource::new(Vec::new(alloc), Vec::new(alloc));
     let mut output = MemSink::new(alloc, 5_000, given.output_fails.to_vec(alloc)?)?;
@@ -65,7 +70,7 @@ const COMMAND: [&str; 3] = ["go", "out", "m.tm"];
 const NOT_BUILT: Answer<'static> = (3, b"", b"m.tm: not built\n", 0);
 
 /// Texts of `m.tm`, and the answers of `go out m.tm`.
-const TEXTS: [(&[u8], Answer<'static>); 10] = [
+const TEXTS: [(&[u8], Answer<'static>); 16] = [
     (b"module m; routine main() end end", (0, b"", b"", 1)),
     (
         b"module hello; routine main() put_byte(72); end end",
@@ -81,16 +86,43 @@ const TEXTS: [(&[u8], Answer<'static>); 10] = [
     ),
     (
         b"module n12345678901234567890123456789012345678901234567890123456789012_5; routine main() end end",
-        NOT_BUILT,
+        (3, b"", b"m.tm: too large name 65 at 7\n", 0),
     ),
     (
         b"module m; routine main() put_byte(256); end end",
         NOT_BUILT,
     ),
-    (b"module m; routine main() end end end", NOT_BUILT),
-    (b"module m; routine main() end", NOT_BUILT),
-    (b"module m; ?", NOT_BUILT),
-    (b"", NOT_BUILT),
+    (
+        b"module m; routine main() while true do put_byte(46); end end end",
+        NOT_BUILT,
+    ),
+    (b"interface i; end", NOT_BUILT),
+    (
+        b"module m; routine main() end end end",
+        (3, b"", b"m.tm: syntax at 33\n", 0),
+    ),
+    (
+        b"module m; routine main() end",
+        (3, b"", b"m.tm: syntax at 28\n", 0),
+    ),
+    (b"module m; ?", (3, b"", b"m.tm: bad byte at 10\n", 0)),
+    (b"", (3, b"", b"m.tm: syntax at 0\n", 0)),
+    (
+        b"module m; routine main() put_int(2147483648); end end",
+        (3, b"", b"m.tm: wide number at 33\n", 0),
+    ),
+    (
+        b"module m; routine main() x := 1; end end",
+        (3, b"", b"m.tm: rule 4 at 25\n", 0),
+    ),
+    (
+        b"module m uses e; routine main() end end",
+        (3, b"", b"m.tm: missing interface e\n", 0),
+    ),
+    (
+        b"module m; routine main() put_byte(?); end end",
+        (3, b"", b"m.tm: bad byte at 34\n", 0),
+    ),
 ];
 
 #[test]
@@ -104,12 +136,14 @@ fn texts(rt: HostRuntime) -> Result<(), Fail> {
 const NO_COMMAND: Answer<'static> = (1, b"", b"words\n", 0);
 
 /// Words, and their answers.
-const WORDS: [(&[&str], Answer<'static>); 11] = [
+const WORDS: [(&[&str], Answer<'static>); 13] = [
     (&[], NO_COMMAND),
     (&["go", "out"], NO_COMMAND),
     (&["Go", "out", "m.tm"], NO_COMMAND),
     (&["go", "-x", "m.tm"], NO_COMMAND),
     (&["go", "out", "-m"], NO_COMMAND),
+    (&["go", "out", "m.tm", "-m"], NO_COMMAND),
+    (&["headers", "m.tm"], NO_COMMAND),
     (&["run"], NO_COMMAND),
     (&["run", "--region", "4095", "m.tm"], NO_COMMAND),
     (&["run", "--steps=1", "--steps=1", "m.tm"], NO_COMMAND),
@@ -122,6 +156,93 @@ const WORDS: [(&[&str], Answer<'static>); 11] = [
 fn words(rt: HostRuntime) -> Result<(), Fail> {
     let given = nothing_fails(b"module m; routine main() end end");
     for &(words, answer) in &WORDS {
+        answers(&rt, rt.alloc(), words, &given, answer)?;
+    }
+    Ok(())
+}
+
+/// The files beside `m.tm`.
+const OTHERS: [(&str, &[u8]); 5] = [
+    ("e.ti", b"interface e; exception x; end"),
+    ("i.ti", b"interface i; end"),
+    ("n.tm", b"module n; routine main() end end"),
+    ("bad.tm", b"module b; ?"),
+    ("main.tm", b"module k; routine main() end end"),
+];
+
+/// The text of `m.tm`, the words, and the answers.
+const PROGRAMS: [(&[u8], &[&str], Answer<'static>); 14] = [
+    (
+        b"module m uses e; routine main() raise e$x; end end",
+        &["go", "out", "e.ti", "m.tm"],
+        (3, b"", b"m.tm: rule 30 at 32\n", 0),
+    ),
+    (
+        b"module m uses e; routine main() raise e$x; end end",
+        &["go", "out", "m.tm", "e.ti"],
+        (3, b"", b"m.tm: rule 30 at 32\n", 0),
+    ),
+    (
+        b"module m uses e; routine main() signals (e$x) raise e$x; end end",
+        &["go", "out", "e.ti", "m.tm"],
+        (3, b"", b"e.ti: not built\n", 0),
+    ),
+    (
+        b"module m uses e; routine main() signals (e$x) raise e$x; end end",
+        &["go", "out", "m.tm", "e.ti"],
+        NOT_BUILT,
+    ),
+    (
+        b"module m uses e; routine main() signals (e$x) raise e$x; end end",
+        &["go", "out", "m.tm", "i.ti"],
+        (3, b"", b"m.tm: missing interface e\n", 0),
+    ),
+    (
+        b"",
+        &["go", "out", "i.ti", "i.ti"],
+        (3, b"", b"i.ti: rule 1 at 10\n", 0),
+    ),
+    (
+        b"module m; routine main() end end",
+        &["go", "out", "m.tm", "n.tm"],
+        (3, b"", b"n.tm: not built\n", 0),
+    ),
+    (
+        b"module m; routine main() end end",
+        &["go", "out", "n.tm", "m.tm"],
+        NOT_BUILT,
+    ),
+    (
+        b"module m; routine main() while true do end end end",
+        &["go", "out", "m.tm", "bad.tm"],
+        (3, b"", b"bad.tm: bad byte at 10\n", 0),
+    ),
+    (
+        b"module m; routine main() x := 1; end end",
+        &["go", "out", "m.tm", "bad.tm"],
+        (3, b"", b"bad.tm: bad byte at 10\n", 0),
+    ),
+    (
+        b"module m; routine main() x := 1; end end",
+        &["go", "out", "m.tm", "bad.tm", "absent"],
+        (2, b"", b"file absent\n", 0),
+    ),
+    (
+        b"",
+        &["go", "out", "gone", "absent"],
+        (2, b"", b"file gone\n", 0),
+    ),
+    (b"", &["go", "out", "main.tm"], (0, b"", b"", 1)),
+    (b"", &["go", "m.tm", "main.tm"], (0, b"", b"", 1)),
+];
+
+#[test]
+fn programs(rt: HostRuntime) -> Result<(), Fail> {
+    for &(text, words, answer) in &PROGRAMS {
+        let given = Given {
+            others: &OTHERS,
+            ..nothing_fails(text)
+        };
         answers(&rt, rt.alloc(), words, &given, answer)?;
     }
     Ok(())
@@ -208,6 +329,7 @@ fn faults(rt: HostRuntime) -> Result<(), Fail> {
     for &(spare, output_fails, answer) in &FAULTS {
         let given = Given {
             text: b"module hello; routine main() put_byte(72); end end",
+            others: &[],
             spare,
             output_fails,
             report_fails: &[],
@@ -225,6 +347,7 @@ fn failing_report(rt: HostRuntime) -> Result<(), Fail> {
     for &(number, report) in &REPORTS {
         let given = Given {
             text: b"",
+            others: &[],
             spare: 9,
             output_fails: &[],
             report_fails: &[number],
@@ -256,6 +379,12 @@ fn many_statements(rt: HostRuntime) -> Result<(), Fail> {
         (0, &put, b"", 1),
     )?;
     let text = long_text(rt.alloc(), 5_000)?;
-    answers(&rt, rt.alloc(), &COMMAND, &nothing_fails(&text), NOT_BUILT)?;
+    answers(
+        &rt,
+        rt.alloc(),
+        &COMMAND,
+        &nothing_fails(&text),
+        (3, b"", b"m.tm: too large nodes 10001 at 10\n", 0),
+    )?;
     Ok(())
 }

@@ -1,5 +1,5 @@
 -- What follows from the answer of a call: when each status comes, completeness, and that the executable does what the source does.
-use Rattle.std.proofs.Common.{◌≡◌, ℕ, ◌<◌, ◌≤◌, List, [], ◌∷◌, ◌++◌, length, Option, Some, None, get_or, refl, sym, ap, subst, ◌∙◌, ◌⊎◌, inl, inr, arith}
+use Rattle.std.proofs.Common.{◌≡◌, ℕ, ◌≤◌, List, [], ◌∷◌, ◌++◌, length, slice_get, Option, Some, None, refl, sym, ap, subst, ◌∙◌, ◌⊎◌, inl, inr, arith}
 use Rattle.std.specs.Prelude.{option_map, ◌↔◌}
 use Rattle.th_world.specs.Event.{puts, takes}
 use Rattle.th_world.specs.Outside.{Rose}
@@ -18,49 +18,26 @@ use Rattle.th_mach.specs.declared.answer.Outcome.TheVariants.{Ended, Raised, Roo
 use Rattle.th_mach.specs.Ran as mach
 use Rattle.th_mach.specs.Ran.{Seen, Ran, TakesTold}
 use Rattle.th_words.specs.Words.{Command, Go, Run, IsCommand, IsNoCommand, IsAtMostOne}
-use Rattle.th_top.specs.Outside.{Outside, Untouched, Holds}
-use Rattle.th_top.specs.Report.{Report}
-use Rattle.th_top.specs.Answers.{Verdict, Done, BadFile, NotBuilt, BadElf, RunRaised, NoRoom, NoSteps, Trapped, NoMemory, StreamFailed, status_of, text_limit, step_limit, region_size, CannotRead, Unread, Tells, Executed, Went, Goes, Does, Answers}
-use Rattle.th_top.specs.Complete.{Given, NoFault, CompleteFor, RefusedFor, DidAsSource, HeadlineFor}
+use Rattle.th_files.specs.Reading.{Told, AreThere, IsUnread}
+use Rattle.th_accept.specs.Answers.{Accepted}
+use Rattle.th_accept.specs.declared.refusal.Refusal.{Refusal}
+use Rattle.th_top.specs.Outside.{Outside}
+use Rattle.th_top.specs.Report.{Report, Reports}
+use Rattle.th_top.specs.Answers as answers
+use Rattle.th_top.specs.Answers.{Verdict, Done, BadFile, NotBuilt, BadElf, RunRaised, NoRoom, NoSteps, Trapped, NoMemory, StreamFailed, status_of, report_of, text_limit, step_limit, region_size, OfTexts, UnreadAmong, RefusesTexts, LeavesUnbuilt, IsUnbuilt, Tells, Executed, Went, Goes, Does, Answers}
+use Rattle.th_top.specs.Complete.{Given, AreBuilt, NoFault, CompleteFor, RefusedFor, ReportsRefusal, ReportsUnbuilt, JudgedFor, DidAsSource, HeadlineFor}
 use Rattle.th_top.proofs.Events.{trace_puts, trace_takes}
 use Rattle.th_top.proofs.Expected.{lawful_region}
+use Rattle.th_top.proofs.Told.{some_one, same_texts, can_read}
 
--- a command `go` has one pair of names
-file_of : Command → List ℕ
-file_of (Go out file) = file
-file_of (Run file region steps) = file
+-- a command `go` has one list of files
+files_of : Command → List (List ℕ)
+files_of (Go out files) = files
+files_of (Run file region steps) = []
 
-same_file : (words : List (List ℕ)) (only : IsAtMostOne words) (out file out1 file1 : List ℕ) → IsCommand words (Go out file) → IsCommand words (Go out1 file1) → file ≡ file1
-unfolding file_of
-same_file words only out file out1 file1 a b = ap file_of (only (Go out file) (Go out1 file1) a b)
-
-pub some_one : {A : Type 0} (a b : A) → Some a ≡ Some b → a ≡ b
-some_one a b e = ap (λ o. elim o [ Some x ↦ x | None ↦ a ]) e
-
--- a file that is told has one content
-pub same_text : (told : Option (List ℕ → Option (List ℕ))) (files : List ℕ → Option (List ℕ)) (file file1 text text1 : List ℕ) → Holds told file text → told ≡ Some files → file ≡ file1 → files file1 ≡ Some text1 → text ≡ text1
-same_text told files file file1 text text1 holds is same there =
-    let P : Option (List ℕ → Option (List ℕ)) → Type 0 = λ o. Holds o file text in
-    let held : files file ≡ Some text = subst P is holds in
-    some_one text text1 (sym held ∙ ap files same ∙ there)
-
-given_text : (words : List (List ℕ)) (only : IsAtMostOne words) (before : Outside) (text out file text1 : List ℕ) → Given words before text → IsCommand words (Go out file) → Holds before.files file text1 → text1 ≡ text
-given_text words only before text out file text1 g go holds =
-    same_text before.files g.files file g.file text1 text holds g.told (same_file words only out file g.out g.file go g.is_command) g.there
-
--- a file isn't both there within the limit, and absent or above it
-pub not_both : (limit : ℕ) (files : List ℕ → Option (List ℕ)) (file text : List ℕ) → files file ≡ Some text → length text ≤ limit → (files file ≡ None) ⊎ ((t : List ℕ) × (files file ≡ Some t) × (limit < length t)) → ⊥
-not_both limit files file text there within (inl none) = cc
-not_both limit files file text there within (inr (t, is, long)) =
-    let same : length t ≡ length text = ap length (some_one t text (sym is ∙ there)) in
-    omega (arith, same, long, within)
-
--- a file that is there within the limit can be read
-can_read : (words : List (List ℕ)) (only : IsAtMostOne words) (before : Outside) (text out file : List ℕ) → Given words before text → IsCommand words (Go out file) → CannotRead text_limit before.files file → ⊥
-can_read words only before text out file g go cannot =
-    let P : Option (List ℕ → Option (List ℕ)) → Type 0 = λ o. CannotRead text_limit o file in
-    let there : g.files file ≡ Some text = ap g.files (same_file words only out file g.out g.file go g.is_command) ∙ g.there in
-    not_both text_limit g.files file text there g.within (subst P g.told cannot)
+same_files : (words : List (List ℕ)) (only : IsAtMostOne words) (out : List ℕ) (files : List (List ℕ)) (out1 : List ℕ) (files1 : List (List ℕ)) → IsCommand words (Go out files) → IsCommand words (Go out1 files1) → files ≡ files1
+unfolding files_of
+same_files words only out files out1 files1 a b = ap files_of (only (Go out files) (Go out1 files1) a b)
 
 -- a stream that failed has a count that rose
 fault_by : (outcome : Outcome) (n : ℕ) (middle later : Seen) (before_reads before_writes : ℕ) → middle.read_faults ≡ before_reads → middle.write_faults ≡ before_writes
@@ -82,25 +59,27 @@ no_stream_fault : (before later : Outside) → NoFault before later → Rose bef
 no_stream_fault before later none (inl rose) = none.read_faults rose
 no_stream_fault before later none (inr rose) = none.write_faults rose
 
-no_unread : (words : List (List ℕ)) (only : IsAtMostOne words) (before later : Outside) (text out file : List ℕ) → Given words before text → IsCommand words (Go out file) → NoFault before later → Unread text_limit file before later → ⊥
-no_unread words only before later text out file g go none (same, inl cannot) = can_read words only before text out file g go cannot.0
-no_unread words only before later text out file g go none (same, inr rose) = none.file_faults rose
-
-no_file_fault : (words : List (List ℕ)) (only : IsAtMostOne words) (before later : Outside) (text out file name : List ℕ) → Given words before text → IsCommand words (Go out file) → NoFault before later
-    → ((name ≡ file) × Unread text_limit file before later) ⊎ ((name ≡ out) × Untouched before later × Rose before.file_faults later.file_faults) → ⊥
-no_file_fault words only before later text out file name g go none (inl unread) = no_unread words only before later text out file g go none unread.1
-no_file_fault words only before later text out file name g go none (inr unwritten) = none.file_faults unwritten.2
-
 built_of : (text : List ℕ) (tree : ProgramModule) → Means text tree → IsBuilt text
 built_of text tree m = (m.name, m.numbers, m.is_text)
 
+-- one text of the form isn't left unbuilt
+not_unbuilt : (told : Told) (files texts : List (List ℕ)) (name text : List ℕ) → AreThere text_limit told files texts → texts ≡ text ∷ [] → IsBuilt text → IsUnbuilt files texts name → ⊥
+not_unbuilt told [] texts name text there one built unbuilt = unbuilt
+not_unbuilt told (file ∷ files) [] name text there one built unbuilt = unbuilt
+not_unbuilt told (file ∷ []) (t ∷ []) name text there one built (inl first) = let same : t ≡ text = cc in first.1 (subst IsBuilt (sym same) built)
+not_unbuilt told (file ∷ []) (t ∷ []) name text there one built (inr more) = let no : None ≡ Some name = more.0 in cc
+not_unbuilt told (file ∷ []) (t ∷ u ∷ texts) name text there one built unbuilt = cc
+not_unbuilt told (file ∷ other ∷ files) (t ∷ []) name text there one built unbuilt = absurd there.2
+not_unbuilt told (file ∷ other ∷ files) (t ∷ u ∷ texts) name text there one built unbuilt = cc
+
 -- statuses of verdicts
-not_run : (words : List (List ℕ)) (only : IsAtMostOne words) (file out file1 : List ℕ) (region steps : ℕ) → IsCommand words (Run file region steps) → IsCommand words (Go out file1) → ⊥
-not_run words only file out file1 region steps a b = let e : Run file region steps ≡ Go out file1 = only (Run file region steps) (Go out file1) a b in cc
+not_run : (words : List (List ℕ)) (only : IsAtMostOne words) (file out : List ℕ) (files : List (List ℕ)) (region steps : ℕ) → IsCommand words (Run file region steps) → IsCommand words (Go out files) → ⊥
+not_run words only file out files region steps a b = let e : Run file region steps ≡ Go out files = only (Run file region steps) (Go out files) a b in cc
 
 no_command_status : (v : Verdict) (status : ℕ) → status ≡ status_of v → status ≡ 1 → ⊥
 no_command_status Done status is one = omega (arith, is, one)
 no_command_status (BadFile name) status is one = omega (arith, is, one)
+no_command_status (answers.Refused name refusal) status is one = omega (arith, is, one)
 no_command_status (NotBuilt name) status is one = omega (arith, is, one)
 no_command_status NoMemory status is one = omega (arith, is, one)
 no_command_status StreamFailed status is one = omega (arith, is, one)
@@ -118,59 +97,117 @@ command_exactly words before later rb rl status (inr obeyed) = (
   λ none. absurd (none obeyed.command obeyed.is_command),
 )
 
-complete_by : (words : List (List ℕ)) (only : IsAtMostOne words) (before later : Outside) (status : ℕ) (text out file : List ℕ) → Given words before text → IsBuilt text → NoFault before later → IsCommand words (Go out file)
-    → (v : Verdict) → Goes out file before later v → status ≡ status_of v → (status ≡ 0) ⊎ (status ≡ 9)
-complete_by words only before later status text out file g built none go Done goes is = inl is
-complete_by words only before later status text out file g built none go NoMemory goes is = inr is
-complete_by words only before later status text out file g built none go (BadFile name) goes is = absurd (no_file_fault words only before later text out file name g go none goes)
-complete_by words only before later status text out file g built none go (NotBuilt name) goes is =
-    let other : goes.3.0 ≡ text = given_text words only before text out file goes.3.0 g go goes.3.1 in
-    absurd (goes.3.3 (subst IsBuilt (sym other) built))
-complete_by words only before later status text out file g built none go StreamFailed goes is = absurd (no_stream_fault before later none (stream_rose out goes.tree before later goes.executed))
-complete_by words only before later status text out file g built none go (BadElf name field) goes is = absurd goes
-complete_by words only before later status text out file g built none go (RunRaised name) goes is = absurd goes
-complete_by words only before later status text out file g built none go NoRoom goes is = absurd goes
-complete_by words only before later status text out file g built none go NoSteps goes is = absurd goes
-complete_by words only before later status text out file g built none go (Trapped cause pc) goes is = absurd goes
+-- what follows where the words are `go` of files that are told, and no count of faults rose, by how the command went
+module _ (words : List (List ℕ)) (only : IsAtMostOne words) (before later : Outside) (texts : List (List ℕ)) (g : Given words before texts) (out : List ℕ) (files : List (List ℕ)) (go : IsCommand words (Go out files)) where
+  files_are : files ≡ g.names
+  files_are = same_files words only out files g.out g.names go g.is_command
 
-complete_of : (words : List (List ℕ)) (only : IsAtMostOne words) (before later : Outside) (status : ℕ) (text : List ℕ) → Given words before text → IsBuilt text → NoFault before later → (command : Command) → IsCommand words command
-    → (v : Verdict) → Does command before later v → status ≡ status_of v → (status ≡ 0) ⊎ (status ≡ 9)
-complete_of words only before later status text g built none (Go out file) is v does answers = complete_by words only before later status text out file g built none is v does answers
-complete_of words only before later status text g built none (Run file region steps) is v does answers = absurd (not_run words only file g.out g.file region steps is g.is_command)
+  -- the texts that were read are those that are given
+  texts_are : (read : List (List ℕ)) → AreThere text_limit before.files files read → read ≡ texts
+  texts_are read there = same_texts text_limit before.files g.files g.names files read texts g.told files_are there g.there
 
--- a text that is built gives status 0, or 9 for want of memory
+  no_unread : (name : List ℕ) → NoFault before later → IsUnread text_limit before.files name before.file_faults later.file_faults → (k : ℕ) → slice_get files k ≡ Some name → ⊥
+  no_unread name none (inl cannot) k at = can_read text_limit before.files g.files g.names texts k name g.told g.there (subst (λ ns. slice_get ns k ≡ Some name) files_are at) cannot.0
+  no_unread name none (inr rose) k at = none.file_faults rose
+
+  no_file_fault : (name : List ℕ) → NoFault before later → UnreadAmong text_limit before.files files name before.file_faults later.file_faults ⊎ ((name ≡ out) × Rose before.file_faults later.file_faults) → ⊥
+  no_file_fault name none (inl unread) = no_unread unread.at.name none unread.at.unread unread.place unread.at.at
+  no_file_fault name none (inr unwritten) = none.file_faults unwritten.1
+
+  not_refused : (name : List ℕ) (refusal : Refusal) → AreBuilt texts → OfTexts before.files files (RefusesTexts files name refusal) → ⊥
+  not_refused name refusal built r = r.2.unaccepted built.modules (subst (λ ts. Accepted ts built.modules) (sym (texts_are r.0 r.1)) built.accepted)
+
+  not_left : (name : List ℕ) → AreBuilt texts → OfTexts before.files files (LeavesUnbuilt files name) → ⊥
+  not_left name built u = not_unbuilt before.files files u.0 name built.text u.1 (texts_are u.0 u.1 ∙ built.one) built.built u.2.unbuilt
+
+  complete_by : (status : ℕ) → AreBuilt texts → NoFault before later → (v : Verdict) → Goes out files before later v → status ≡ status_of v → (status ≡ 0) ⊎ (status ≡ 9)
+  complete_by status built none Done goes is = inl is
+  complete_by status built none NoMemory goes is = inr is
+  complete_by status built none (BadFile name) goes is = absurd (no_file_fault name none goes.1)
+  complete_by status built none (answers.Refused name refusal) goes is = absurd (not_refused name refusal built goes.1)
+  complete_by status built none (NotBuilt name) goes is = absurd (not_left name built goes.1)
+  complete_by status built none StreamFailed goes is = absurd (no_stream_fault before later none (stream_rose out goes.tree before later goes.executed))
+  complete_by status built none (BadElf name field) goes is = absurd goes
+  complete_by status built none (RunRaised name) goes is = absurd goes
+  complete_by status built none NoRoom goes is = absurd goes
+  complete_by status built none NoSteps goes is = absurd goes
+  complete_by status built none (Trapped cause pc) goes is = absurd goes
+
+  went_built : (v : Verdict) → Went out files before later v → AreBuilt texts
+  went_built v w =
+      let is : w.text ∷ [] ≡ texts = texts_are (w.text ∷ []) w.there in
+      record { modules = w.modules; accepted = subst (λ ts. Accepted ts w.modules) is w.accepted; text = w.text; one = sym is; built = built_of w.text w.tree w.means }
+
+  refused_by : (status : ℕ) → (AreBuilt texts → ⊥) → NoFault before later → (v : Verdict) → Goes out files before later v → status ≡ status_of v → (status ≡ 3) ⊎ (status ≡ 9)
+  refused_by status unbuilt none Done goes is = absurd (unbuilt (went_built Done goes))
+  refused_by status unbuilt none NoMemory goes is = inr is
+  refused_by status unbuilt none (BadFile name) goes is = absurd (no_file_fault name none goes.1)
+  refused_by status unbuilt none (answers.Refused name refusal) goes is = inl is
+  refused_by status unbuilt none (NotBuilt name) goes is = inl is
+  refused_by status unbuilt none StreamFailed goes is = absurd (unbuilt (went_built StreamFailed goes))
+  refused_by status unbuilt none (BadElf name field) goes is = absurd goes
+  refused_by status unbuilt none (RunRaised name) goes is = absurd goes
+  refused_by status unbuilt none NoRoom goes is = absurd goes
+  refused_by status unbuilt none NoSteps goes is = absurd goes
+  refused_by status unbuilt none (Trapped cause pc) goes is = absurd goes
+
+  judged_by : (rb rl : Report) (status : ℕ) → status ≡ 3 → (v : Verdict) → Goes out files before later v → status ≡ status_of v → Reports (report_of v) rb rl → ReportsRefusal g.names texts rb rl ⊎ ReportsUnbuilt g.names texts rb rl
+  judged_by rb rl status three (answers.Refused name refusal) goes is report =
+      let r : OfTexts before.files files (RefusesTexts files name refusal) = goes.1 in
+      inl (record {
+        name = name;
+        refusal = refusal;
+        refuses = subst (λ ns. RefusesTexts ns name refusal texts) files_are (subst (RefusesTexts files name refusal) (texts_are r.0 r.1) r.2);
+        report = report;
+      })
+  judged_by rb rl status three (NotBuilt name) goes is report =
+      let u : OfTexts before.files files (LeavesUnbuilt files name) = goes.1 in
+      inr (record {
+        name = name;
+        leaves = subst (λ ns. LeavesUnbuilt ns name texts) files_are (subst (LeavesUnbuilt files name) (texts_are u.0 u.1) u.2);
+        report = report;
+      })
+  judged_by rb rl status three Done goes is report = absurd (omega (arith, three, is))
+  judged_by rb rl status three NoMemory goes is report = absurd (omega (arith, three, is))
+  judged_by rb rl status three (BadFile name) goes is report = absurd (omega (arith, three, is))
+  judged_by rb rl status three StreamFailed goes is report = absurd (omega (arith, three, is))
+  judged_by rb rl status three (BadElf name field) goes is report = absurd goes
+  judged_by rb rl status three (RunRaised name) goes is report = absurd goes
+  judged_by rb rl status three NoRoom goes is report = absurd goes
+  judged_by rb rl status three NoSteps goes is report = absurd goes
+  judged_by rb rl status three (Trapped cause pc) goes is report = absurd goes
+
+module _ (words : List (List ℕ)) (only : IsAtMostOne words) (before later : Outside) (texts : List (List ℕ)) (g : Given words before texts) where
+  complete_of : (status : ℕ) → AreBuilt texts → NoFault before later → (command : Command) → IsCommand words command → (v : Verdict) → Does command before later v → status ≡ status_of v → (status ≡ 0) ⊎ (status ≡ 9)
+  complete_of status built none (Go out files) is v does said = complete_by words only before later texts g out files is status built none v does said
+  complete_of status built none (Run file region steps) is v does said = absurd (not_run words only file g.out g.names region steps is g.is_command)
+
+  refused_of : (status : ℕ) → (AreBuilt texts → ⊥) → NoFault before later → (command : Command) → IsCommand words command → (v : Verdict) → Does command before later v → status ≡ status_of v → (status ≡ 3) ⊎ (status ≡ 9)
+  refused_of status unbuilt none (Go out files) is v does said = refused_by words only before later texts g out files is status unbuilt none v does said
+  refused_of status unbuilt none (Run file region steps) is v does said = absurd (not_run words only file g.out g.names region steps is g.is_command)
+
+  judged_of : (rb rl : Report) (status : ℕ) → status ≡ 3 → (command : Command) → IsCommand words command → (v : Verdict) → Does command before later v → status ≡ status_of v → Reports (report_of v) rb rl
+      → ReportsRefusal g.names texts rb rl ⊎ ReportsUnbuilt g.names texts rb rl
+  judged_of rb rl status three (Go out files) is v does said report = judged_by words only before later texts g out files is rb rl status three v does said report
+  judged_of rb rl status three (Run file region steps) is v does said report = absurd (not_run words only file g.out g.names region steps is g.is_command)
+
+-- texts that are accepted and built give status 0, or 9 for want of memory
 pub complete : (words : List (List ℕ)) (only : IsAtMostOne words) (before later : Outside) (rb rl : Report) (status : ℕ) → Answers words before later rb rl status → CompleteFor words before later status
-complete words only before later rb rl status (inl refused) = λ text g built none. absurd (refused.no_command (Go g.out g.file) g.is_command)
+complete words only before later rb rl status (inl refused) = λ texts g built none. absurd (refused.no_command (Go g.out g.names) g.is_command)
 complete words only before later rb rl status (inr obeyed) =
-    λ text g built none. complete_of words only before later status text g built none obeyed.command obeyed.is_command obeyed.verdict obeyed.does obeyed.answers
+    λ texts g built none. complete_of words only before later texts g status built none obeyed.command obeyed.is_command obeyed.verdict obeyed.does obeyed.answers
 
-went_built : (words : List (List ℕ)) (only : IsAtMostOne words) (before later : Outside) (text out file : List ℕ) (v : Verdict) → Given words before text → IsCommand words (Go out file) → Went out file before later v → IsBuilt text
-went_built words only before later text out file v g go w =
-    subst IsBuilt (given_text words only before text out file w.text g go w.holds) (built_of w.text w.tree w.means)
-
-refused_by : (words : List (List ℕ)) (only : IsAtMostOne words) (before later : Outside) (status : ℕ) (text out file : List ℕ) → Given words before text → (IsBuilt text → ⊥) → NoFault before later → IsCommand words (Go out file)
-    → (v : Verdict) → Goes out file before later v → status ≡ status_of v → (status ≡ 3) ⊎ (status ≡ 9)
-refused_by words only before later status text out file g unbuilt none go Done goes is = absurd (unbuilt (went_built words only before later text out file Done g go goes))
-refused_by words only before later status text out file g unbuilt none go NoMemory goes is = inr is
-refused_by words only before later status text out file g unbuilt none go (BadFile name) goes is = absurd (no_file_fault words only before later text out file name g go none goes)
-refused_by words only before later status text out file g unbuilt none go (NotBuilt name) goes is = inl is
-refused_by words only before later status text out file g unbuilt none go StreamFailed goes is = absurd (unbuilt (went_built words only before later text out file StreamFailed g go goes))
-refused_by words only before later status text out file g unbuilt none go (BadElf name field) goes is = absurd goes
-refused_by words only before later status text out file g unbuilt none go (RunRaised name) goes is = absurd goes
-refused_by words only before later status text out file g unbuilt none go NoRoom goes is = absurd goes
-refused_by words only before later status text out file g unbuilt none go NoSteps goes is = absurd goes
-refused_by words only before later status text out file g unbuilt none go (Trapped cause pc) goes is = absurd goes
-
-refused_of : (words : List (List ℕ)) (only : IsAtMostOne words) (before later : Outside) (status : ℕ) (text : List ℕ) → Given words before text → (IsBuilt text → ⊥) → NoFault before later → (command : Command) → IsCommand words command
-    → (v : Verdict) → Does command before later v → status ≡ status_of v → (status ≡ 3) ⊎ (status ≡ 9)
-refused_of words only before later status text g unbuilt none (Go out file) is v does answers = refused_by words only before later status text out file g unbuilt none is v does answers
-refused_of words only before later status text g unbuilt none (Run file region steps) is v does answers = absurd (not_run words only file g.out g.file region steps is g.is_command)
-
--- a text that isn't built gives status 3, or 9 for want of memory
+-- texts that aren't accepted or aren't built give status 3, or 9 for want of memory
 pub refused : (words : List (List ℕ)) (only : IsAtMostOne words) (before later : Outside) (rb rl : Report) (status : ℕ) → Answers words before later rb rl status → RefusedFor words before later status
-refused words only before later rb rl status (inl unheard) = λ text g unbuilt none. absurd (unheard.no_command (Go g.out g.file) g.is_command)
+refused words only before later rb rl status (inl unheard) = λ texts g unbuilt none. absurd (unheard.no_command (Go g.out g.names) g.is_command)
 refused words only before later rb rl status (inr obeyed) =
-    λ text g unbuilt none. refused_of words only before later status text g unbuilt none obeyed.command obeyed.is_command obeyed.verdict obeyed.does obeyed.answers
+    λ texts g unbuilt none. refused_of words only before later texts g status unbuilt none obeyed.command obeyed.is_command obeyed.verdict obeyed.does obeyed.answers
+
+-- status 3 tells that texts are refused, or that they are accepted and not built
+pub judged : (words : List (List ℕ)) (only : IsAtMostOne words) (before later : Outside) (rb rl : Report) (status : ℕ) → Answers words before later rb rl status → JudgedFor words before rb rl status
+judged words only before later rb rl status (inl unheard) = λ texts g three. absurd (unheard.no_command (Go g.out g.names) g.is_command)
+judged words only before later rb rl status (inr obeyed) =
+    λ texts g three. judged_of words only before later texts g rb rl status three obeyed.command obeyed.is_command obeyed.verdict obeyed.does obeyed.answers obeyed.report
 
 -- an input that is told, after a log took of it
 pub took_told : (o l : Option (List ℕ)) (log : List Retired) (input : List ℕ) → TakesTold o log l → o ≡ Some input → (rest : List ℕ) × (l ≡ Some rest) × Takes input log rest
@@ -210,56 +247,60 @@ source_ended image tree input steps t agrees bytes is ended =
     same_stand (source_run (tree ∷ []) input None steps) t (both.0 ∙ sym ended) (both.1 ∙ ap (λ (x : Stand). x.trace) is)
 
 -- a command that ended did what the source does
-did : (words : List (List ℕ)) (only : IsAtMostOne words) (before later : Outside) (text input out file : List ℕ) → Given words before text → before.left ≡ Some input → AreBytes input → IsCommand words (Go out file)
-    → (w : Went out file before later Done) → DidAsSource words before later text input
-did words only before later text input out file g told bytes go w =
-    let e : Executed out w.tree before later Done = w.executed in
-    let log : List Retired = e.ran.log in
-    let ended : (_ ≡ e.ran.middle) × (e.ran.middle.machine.status ≡ Stopped halt.Ended) × (length log ≤ step_limit) = ended_by e.outcome (length log) e.ran.middle _ e.tells e.ran.ends in
-    let taken : (rest : List ℕ) × (e.ran.middle.left ≡ Some rest) × Takes input log rest = took_told before.left e.ran.middle.left log input e.ran.retiring.left told in
-    let t : Stand = record { end = ends.Ended; trace = trace (names_of e.image.map) log } in
-    let is : image_run e.image region_size input (length log) ≡ t = run_ended e.image input taken.0 log e.ran.middle.machine e.ran.retiring.retires ended.1 taken.2 in
-    let source : source_run (w.tree ∷ []) input None (length log) ≡ t = source_ended e.image w.tree input (length log) t e.agrees bytes is refl in
-    record {
-      tree = w.tree;
-      means = subst (λ x. Means x w.tree) (given_text words only before text out file w.text g go w.holds) w.means;
-      image = e.image;
-      agrees = e.agrees;
-      out = out;
-      file = file;
-      is_command = go;
-      files = e.files;
-      steps = length log;
-      few = ended.2;
-      ended = ap (λ (x : Stand). x.end) source;
-      same = is ∙ sym source;
-      put = ap (λ (x : Seen). x.put) ended.0 ∙ e.ran.retiring.put
-          ∙ ap (λ x. option_map (λ bs. bs ++ x) before.put) (sym (trace_puts (names_of e.image.map) log) ∙ ap (λ (x : Stand). puts x.trace) (sym source));
-      left = taken.0;
-      left_told = ap (λ (x : Seen). x.left) ended.0 ∙ taken.1;
-      taken = trace_takes (names_of e.image.map) log input taken.0 taken.2 ∙ ap (λ (x : Stand). takes x.trace ++ taken.0) (sym source);
-    }
+module _ (words : List (List ℕ)) (only : IsAtMostOne words) (before later : Outside) (texts : List (List ℕ)) (g : Given words before texts) (input : List ℕ) (told : before.left ≡ Some input) (bytes : AreBytes input) where
+  did : (out : List ℕ) (files : List (List ℕ)) → IsCommand words (Go out files) → (w : Went out files before later Done) → DidAsSource words before later texts input
+  did out files go w =
+      let e : Executed out w.tree before later Done = w.executed in
+      let log : List Retired = e.ran.log in
+      let ended : (_ ≡ e.ran.middle) × (e.ran.middle.machine.status ≡ Stopped halt.Ended) × (length log ≤ step_limit) = ended_by e.outcome (length log) e.ran.middle _ e.tells e.ran.ends in
+      let taken : (rest : List ℕ) × (e.ran.middle.left ≡ Some rest) × Takes input log rest = took_told before.left e.ran.middle.left log input e.ran.retiring.left told in
+      let t : Stand = record { end = ends.Ended; trace = trace (names_of e.image.map) log } in
+      let is : image_run e.image region_size input (length log) ≡ t = run_ended e.image input taken.0 log e.ran.middle.machine e.ran.retiring.retires ended.1 taken.2 in
+      let source : source_run (w.tree ∷ []) input None (length log) ≡ t = source_ended e.image w.tree input (length log) t e.agrees bytes is refl in
+      let alone : w.text ∷ [] ≡ texts = texts_are words only before later texts g out files go (w.text ∷ []) w.there in
+      record {
+        text = w.text;
+        one = sym alone;
+        modules = w.modules;
+        accepted = subst (λ ts. Accepted ts w.modules) alone w.accepted;
+        tree = w.tree;
+        means = w.means;
+        image = e.image;
+        agrees = e.agrees;
+        out = out;
+        names = files;
+        is_command = go;
+        files = e.files;
+        steps = length log;
+        few = ended.2;
+        ended = ap (λ (x : Stand). x.end) source;
+        same = is ∙ sym source;
+        put = ap (λ (x : Seen). x.put) ended.0 ∙ e.ran.retiring.put
+            ∙ ap (λ x. option_map (λ bs. bs ++ x) before.put) (sym (trace_puts (names_of e.image.map) log) ∙ ap (λ (x : Stand). puts x.trace) (sym source));
+        left = taken.0;
+        left_told = ap (λ (x : Seen). x.left) ended.0 ∙ taken.1;
+        taken = trace_takes (names_of e.image.map) log input taken.0 taken.2 ∙ ap (λ (x : Stand). takes x.trace ++ taken.0) (sym source);
+      }
 
-headline_by : (words : List (List ℕ)) (only : IsAtMostOne words) (before later : Outside) (status : ℕ) (text input out file : List ℕ) → Given words before text → before.left ≡ Some input → AreBytes input → status ≡ 0 → IsCommand words (Go out file)
-    → (v : Verdict) → Goes out file before later v → status ≡ status_of v → DidAsSource words before later text input
-headline_by words only before later status text input out file g told bytes zero go Done goes is = did words only before later text input out file g told bytes go goes
-headline_by words only before later status text input out file g told bytes zero go NoMemory goes is = absurd (omega (arith, zero, is))
-headline_by words only before later status text input out file g told bytes zero go (BadFile name) goes is = absurd (omega (arith, zero, is))
-headline_by words only before later status text input out file g told bytes zero go (NotBuilt name) goes is = absurd (omega (arith, zero, is))
-headline_by words only before later status text input out file g told bytes zero go StreamFailed goes is = absurd (omega (arith, zero, is))
-headline_by words only before later status text input out file g told bytes zero go (BadElf name field) goes is = absurd goes
-headline_by words only before later status text input out file g told bytes zero go (RunRaised name) goes is = absurd goes
-headline_by words only before later status text input out file g told bytes zero go NoRoom goes is = absurd goes
-headline_by words only before later status text input out file g told bytes zero go NoSteps goes is = absurd goes
-headline_by words only before later status text input out file g told bytes zero go (Trapped cause pc) goes is = absurd goes
+  headline_by : (status : ℕ) → status ≡ 0 → (out : List ℕ) (files : List (List ℕ)) → IsCommand words (Go out files) → (v : Verdict) → Goes out files before later v → status ≡ status_of v → DidAsSource words before later texts input
+  headline_by status nil out files go Done goes is = did out files go goes
+  headline_by status nil out files go NoMemory goes is = absurd (omega (arith, nil, is))
+  headline_by status nil out files go (BadFile name) goes is = absurd (omega (arith, nil, is))
+  headline_by status nil out files go (answers.Refused name refusal) goes is = absurd (omega (arith, nil, is))
+  headline_by status nil out files go (NotBuilt name) goes is = absurd (omega (arith, nil, is))
+  headline_by status nil out files go StreamFailed goes is = absurd (omega (arith, nil, is))
+  headline_by status nil out files go (BadElf name field) goes is = absurd goes
+  headline_by status nil out files go (RunRaised name) goes is = absurd goes
+  headline_by status nil out files go NoRoom goes is = absurd goes
+  headline_by status nil out files go NoSteps goes is = absurd goes
+  headline_by status nil out files go (Trapped cause pc) goes is = absurd goes
 
-headline_of : (words : List (List ℕ)) (only : IsAtMostOne words) (before later : Outside) (status : ℕ) (text input : List ℕ) → Given words before text → before.left ≡ Some input → AreBytes input → status ≡ 0 → (command : Command) → IsCommand words command
-    → (v : Verdict) → Does command before later v → status ≡ status_of v → DidAsSource words before later text input
-headline_of words only before later status text input g told bytes zero (Go out file) is v does answers = headline_by words only before later status text input out file g told bytes zero is v does answers
-headline_of words only before later status text input g told bytes zero (Run file region steps) is v does answers = absurd (not_run words only file g.out g.file region steps is g.is_command)
+  headline_of : (status : ℕ) → status ≡ 0 → (command : Command) → IsCommand words command → (v : Verdict) → Does command before later v → status ≡ status_of v → DidAsSource words before later texts input
+  headline_of status nil (Go out files) is v does said = headline_by status nil out files is v does said
+  headline_of status nil (Run file region steps) is v does said = absurd (not_run words only file g.out g.names region steps is g.is_command)
 
 -- status 0 says that the executable did what the source does
 pub headline : (words : List (List ℕ)) (only : IsAtMostOne words) (before later : Outside) (rb rl : Report) (status : ℕ) → Answers words before later rb rl status → HeadlineFor words before later status
-headline words only before later rb rl status (inl refused) = λ text input g told bytes zero. absurd (omega (arith, zero, refused.answers))
+headline words only before later rb rl status (inl refused) = λ texts input g told bytes nil. absurd (omega (arith, nil, refused.answers))
 headline words only before later rb rl status (inr obeyed) =
-    λ text input g told bytes zero. headline_of words only before later status text input g told bytes zero obeyed.command obeyed.is_command obeyed.verdict obeyed.does obeyed.answers
+    λ texts input g told bytes nil. headline_of words only before later texts g input told bytes status nil obeyed.command obeyed.is_command obeyed.verdict obeyed.does obeyed.answers

@@ -1,12 +1,17 @@
 -- From the parts of the command `go` to the whole.
-use Rattle.std.proofs.Common.{◌≡◌, ℕ, ◌≤◌, List, length, Option, Some, None, refl, subst, inr}
+use Rattle.std.proofs.Common.{◌≡◌, ℕ, List, [], ◌∷◌, Option, Some, None, refl, subst, inl, inr}
 use Rattle.std.specs.Prelude.{IfSome}
 use Rattle.th_core.specs.Tree.{ProgramModule}
 use Rattle.th_front.specs.Form.{Means}
 use Rattle.th_top.specs.declared.build.Product.{Product}
-use Rattle.th_top.specs.Outside.{Outside, Holds}
+use Rattle.th_files.specs.Reading.{Holds, AreThere}
+use Rattle.th_meaning.specs.Program.{ProgramModule as CheckedModule}
+use Rattle.th_accept.specs.Answers.{Accepted}
+use Rattle.th_top.specs.Outside.{Outside, Untouched}
+use Rattle.th_top.specs.Answers as answers
 use Rattle.th_top.specs.Answers.{Verdict, Done, BadFile, NotBuilt, BadElf, RunRaised, NoRoom, NoSteps, Trapped, NoMemory, StreamFailed, text_limit, Executed, Wrote, Went, Goes}
 use Rattle.th_top.specs.Built.{IsProductOf, IsProduct}
+use Rattle.th_top.specs.Texts.{Stops}
 
 -- the bytes that a read gives are those of the file
 pub holds_of : (told : Option (List ℕ → Option (List ℕ))) (name text : List ℕ) → IfSome told (λ files. files name ≡ Some text) → Holds told name text
@@ -18,26 +23,42 @@ pub same_outside : (o : Outside) (files : Option (List ℕ → Option (List ℕ)
     → ◌≡◌ {A = Outside} (record { files = files; written = written; file_faults = faults; left = o.left; read_faults = o.read_faults; put = o.put; write_faults = o.write_faults }) o
 same_outside o files written faults ef ew en = rw (ef, ew, en) refl
 
--- a module's program that was written and run, or whose file couldn't be written, after its text was read
-went : (out file : List ℕ) (before later : Outside) (v : Verdict) (text : List ℕ) (tree : ProgramModule) → Holds before.files file text → length text ≤ text_limit → Means text tree
-    → Executed out tree before later v → Went out file before later v
-went out file before later v text tree holds within means done = record { text = text; holds = holds; within = within; tree = tree; means = means; executed = done }
+-- files that give no executable
+pub stopped : (out : List ℕ) (files : List (List ℕ)) (before later : Outside) (v : Verdict) → Untouched before later → Stops before.files files before.file_faults later.file_faults v → Goes out files before later v
+stopped out files before later NoMemory same stops = (same, stops)
+stopped out files before later (BadFile name) same stops = (same, inl stops)
+stopped out files before later (answers.Refused name refusal) same stops = ((same, stops.0), stops.1)
+stopped out files before later (NotBuilt name) same stops = ((same, stops.0), stops.1)
+stopped out files before later Done same stops = absurd stops
+stopped out files before later StreamFailed same stops = absurd stops
+stopped out files before later (BadElf name field) same stops = absurd stops
+stopped out files before later (RunRaised name) same stops = absurd stops
+stopped out files before later NoRoom same stops = absurd stops
+stopped out files before later NoSteps same stops = absurd stops
+stopped out files before later (Trapped cause pc) same stops = absurd stops
 
-goes_by : (out file : List ℕ) (before later : Outside) (v : Verdict) (text : List ℕ) (tree : ProgramModule) → Holds before.files file text → length text ≤ text_limit → Means text tree
-    → Wrote out tree before later v → Goes out file before later v
-goes_by out file before later Done text tree holds within means w = went out file before later Done text tree holds within means w
-goes_by out file before later StreamFailed text tree holds within means w = went out file before later StreamFailed text tree holds within means w
-goes_by out file before later (BadFile name) text tree holds within means w = inr (w.1, w.0, w.2)
-goes_by out file before later (NotBuilt name) text tree holds within means w = absurd w
-goes_by out file before later NoMemory text tree holds within means w = absurd w
-goes_by out file before later (BadElf name field) text tree holds within means w = absurd w
-goes_by out file before later (RunRaised name) text tree holds within means w = absurd w
-goes_by out file before later NoRoom text tree holds within means w = absurd w
-goes_by out file before later NoSteps text tree holds within means w = absurd w
-goes_by out file before later (Trapped cause pc) text tree holds within means w = absurd w
+-- a module's program that was written and run, or whose file couldn't be written, after its text was read and accepted
+module _ (out : List ℕ) (files : List (List ℕ)) (before later : Outside) (text : List ℕ) (modules : List CheckedModule) (tree : ProgramModule)
+    (there : AreThere text_limit before.files files (text ∷ [])) (accepted : Accepted (text ∷ []) modules) (means : Means text tree) where
+  went : (v : Verdict) → Executed out tree before later v → Went out files before later v
+  went v done = record { text = text; there = there; modules = modules; accepted = accepted; tree = tree; means = means; executed = done }
 
-pub goes : (out file : List ℕ) (before middle later : Outside) (v : Verdict) (text read : List ℕ) (p : Product) → Holds before.files file read → text ≡ read → length read ≤ text_limit
-    → (is : IsProduct text p) → middle ≡ before → ((tree : ProgramModule) → IsProductOf tree p → Wrote out tree middle later v) → Goes out file before later v
-goes out file before middle later v text read p holds same within is unchanged wrote =
-    let means : Means read is.tree = subst (λ t. Means t is.tree) same is.means in
-    goes_by out file before later v read is.tree holds within means (subst (λ o. Wrote out is.tree o later v) unchanged (wrote is.tree is.product))
+  goes_by : (v : Verdict) → Wrote out tree before later v → Goes out files before later v
+  goes_by Done w = went Done w
+  goes_by StreamFailed w = went StreamFailed w
+  goes_by (BadFile name) w = (w.0, inr (w.1, w.2))
+  goes_by (answers.Refused name refusal) w = absurd w
+  goes_by (NotBuilt name) w = absurd w
+  goes_by NoMemory w = absurd w
+  goes_by (BadElf name field) w = absurd w
+  goes_by (RunRaised name) w = absurd w
+  goes_by NoRoom w = absurd w
+  goes_by NoSteps w = absurd w
+  goes_by (Trapped cause pc) w = absurd w
+
+pub goes : (out : List ℕ) (files : List (List ℕ)) (before middle later : Outside) (v : Verdict) (p : Product) → IsProduct before.files files p → middle ≡ before
+    → ((tree : ProgramModule) → IsProductOf tree p → Wrote out tree middle later v) → Goes out files before later v
+goes out files before middle later v p is unchanged wrote =
+    let there : AreThere text_limit before.files files (is.alone.text ∷ []) = subst (AreThere text_limit before.files files) is.alone.one is.there in
+    let accepted : Accepted (is.alone.text ∷ []) is.modules = subst (λ ts. Accepted ts is.modules) is.alone.one is.accepted in
+    goes_by out files before later is.alone.text is.modules is.tree there accepted is.alone.means v (subst (λ o. Wrote out is.tree o later v) unchanged (wrote is.tree is.product))

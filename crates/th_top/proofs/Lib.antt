@@ -2,6 +2,8 @@ pub mod Said
 pub mod Three
 pub mod Producing
 pub mod Expected
+pub mod Told
+pub mod Stopped
 pub mod Going
 pub mod Wrote
 pub mod Events

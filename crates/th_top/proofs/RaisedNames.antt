@@ -1,9 +1,9 @@
 -- A machine that raised has an exception's name in memory.
-use Rattle.std.proofs.Common.{◌≡◌, ℕ, ◌+◌, ◌*◌, ◌/◌, ◌%◌, ◌≤◌, List, [], ◌∷◌, length, Option, Some, None, Bool, true, false, nat_le, nat_eq, refl, sym, ap, subst, ◌∙◌, ◌⊎◌, inl, inr, arith}
+use Rattle.std.proofs.Common.{◌≡◌, ℕ, ◌*◌, ◌/◌, ◌%◌, ◌≤◌, List, [], ◌∷◌, length, Option, Some, None, Bool, nat_le, nat_eq, refl, sym, ap, subst, ◌∙◌, inl, inr}
 use Rattle.std.proofs.lemmas.Bool.{cond_both, leb-true}
-use Rattle.th_word.specs.Word.{word_add, extend_12, extend_13, extend_21}
+use Rattle.th_word.specs.Word.{word_add, extend_13, extend_21}
 use Rattle.th_rv.specs.declared.instr.Instr.{Instr}
-use Rattle.th_rv.specs.declared.instr.Instr.TheVariants.{Lui, Auipc, Jal, Jalr, Beq, Bne, Blt, Bge, Bltu, Bgeu, Lb, Lh, Lw, Lbu, Lhu, Sb, Sh, Sw, Addi, Slti, Sltiu, Xori, Ori, Andi, Slli, Srli, Srai, Add, Sub, Sll, Slt, Sltu, Xor, Srl, Sra, Or, And, Mul, Mulh, Mulhsu, Mulhu, Div, Divu, Rem, Remu, Fence, Ecall, Ebreak}
+use Rattle.th_rv.specs.declared.instr.Instr.TheVariants.{Jal, Jalr, Beq, Bne, Blt, Bge, Bltu, Bgeu, Lb, Lh, Lw, Lbu, Lhu, Sb, Sh, Sw, Ecall}
 use Rattle.th_rv.specs.Memory.{Area, number_at, bytes_at}
 use Rattle.th_rv.specs.Table.{decode}
 use Rattle.th_rv.specs.Step.{State, Halt, Ended, Raised, RoomUsed, Act, Next, Puts, Gets, Halts, Traps, reg, with_reg, jump, branch, address, into_reg, load, into_memory, store, raise_named, raise, environment_call, execute, execute_word, execute_found, step}
@@ -15,7 +15,7 @@ use Rattle.th_mach.specs.Ran as mach
 use Rattle.th_mach.specs.Ran.{Seen, seen, Ran}
 use Rattle.th_top.specs.Built.{HasName, IsNamed}
 use Rattle.th_world.specs.Event.{Event}
-use Rattle.th_elf.specs.Run.{Machine, Status, Running, Stopped, Retired, Retires, Did, Leads, Got, running}
+use Rattle.th_elf.specs.Run.{Machine, Running, Stopped, Retired, Retires, Leads, Got, running}
 
 -- where an end is by an exception, the name is there
 abbrev pub EndNamed : Halt → State → Type 0

@@ -1,28 +1,27 @@
 -- What follows for the command `run`: that a loadable file is run as the definition has it, and others are refused.
-use Rattle.std.proofs.Common.{◌≡◌, ℕ, suc, ◌<◌, ◌≤◌, List, [], ◌∷◌, ◌++◌, length, Option, Some, None, refl, sym, ap, subst, ◌∙◌, ◌⊎◌, inl, inr, arith}
-use Rattle.std.specs.Prelude.{option_map}
-use Rattle.th_world.specs.Event.{puts}
+use Rattle.std.proofs.Common.{◌≡◌, ℕ, suc, ◌<◌, ◌≤◌, List, [], ◌∷◌, length, Some, None, refl, sym, ap, subst, ◌∙◌, ◌⊎◌, inl, inr, arith}
 use Rattle.th_world.specs.Outside.{Rose}
 use Rattle.th_rv.specs.declared.instr.Cause.{Cause}
 use Rattle.th_rv.specs.Step as halt
 use Rattle.th_rv.specs.Step.{State}
 use Rattle.th_elf.specs.declared.error.Field.{Field}
 use Rattle.th_elf.specs.Loadable.{first_failing, segments_of}
-use Rattle.th_elf.specs.Run.{Machine, Status, Running, Stopped, Trapped, Retired, Retires, Trapping, Takes, loaded, run, run_of, start, running, trace, no_names}
-use Rattle.th_elf.specs.Run.{Run as MachineRun}
+use Rattle.th_elf.specs.Run.{Machine, Status, Running, Stopped, Trapped, Retired, Retires, Takes, loaded, run, run_of, start, running}
 use Rattle.th_elf.proofs.Logs.{retires_run, trapping_run}
 use Rattle.th_mach.specs.declared.answer.Outcome.{Outcome}
 use Rattle.th_mach.specs.declared.answer.Outcome.TheVariants.{Ended, Raised, RoomUsed, StepsUsed, Trap, ReadFault, WriteFault}
-use Rattle.th_mach.specs.Counted.{Counted, fresh}
+use Rattle.th_mach.specs.Counted.{Counted}
 use Rattle.th_mach.specs.Ran as mach
 use Rattle.th_mach.specs.Ran.{Seen, seen, Ran, Retiring, TrapsNow, TakesTold}
-use Rattle.th_words.specs.Words.{Command, Go, Run, IsCommand, IsNoCommand, IsAtMostOne}
-use Rattle.th_top.specs.Outside.{Outside, Untouched, Holds}
+use Rattle.th_words.specs.Words.{Command, Run, IsCommand, IsAtMostOne}
+use Rattle.th_files.specs.Reading.{Holds, CannotRead}
+use Rattle.th_top.specs.Outside.{Outside}
 use Rattle.th_top.specs.Report.{Report}
 use Rattle.th_top.specs.Answers as answers
-use Rattle.th_top.specs.Answers.{Verdict, Done, BadFile, NotBuilt, BadElf, RunRaised, NoRoom, NoSteps, NoMemory, StreamFailed, status_of, file_limit, CannotRead, Unread, TellsOf, RunsFile, Runs, Does, Refuses, Obeys, Answers}
+use Rattle.th_top.specs.Answers.{Verdict, Done, BadFile, NotBuilt, BadElf, RunRaised, NoRoom, NoSteps, NoMemory, StreamFailed, status_of, file_limit, Unread, TellsOf, RunsFile, Runs, Does, Refuses, Obeys, Answers}
 use Rattle.th_top.specs.Complete.{GivenRun, NoFault, IsStatusOf, RanAsDefined, RunCompleteFor, RunRefusedFor}
-use Rattle.th_top.proofs.Derived.{took_told, some_one, same_text, not_both}
+use Rattle.th_top.proofs.Told.{same_text, not_both}
+use Rattle.th_top.proofs.Derived.{took_told}
 
 -- how a run of a fresh machine stands after it, and after how many steps of the definition
 pub record Reached (s0 : State) (input : List ℕ) (steps : ℕ) (outcome : Outcome) (middle later : Seen) (log : List Retired) : Type 0 where
@@ -167,6 +166,7 @@ module _ (words : List (List ℕ)) (before later : Outside) (bytes : List ℕ) (
       absurd cc
   complete_by input status (BadFile name) told loadable does is = absurd (unread does.1)
   complete_by input status (NotBuilt name) told loadable does is = absurd does
+  complete_by input status (answers.Refused name refusal) told loadable does is = absurd does
 
   unloadable : (v : Verdict) (field : Field) → first_failing bytes ≡ Some field → RunsFile g.file region steps before later v → ⊥
   unloadable v field failing r = let no : Some field ≡ None = sym failing ∙ ap first_failing (sym (same_bytes r.bytes r.holds)) ∙ r.loadable in cc
@@ -182,6 +182,7 @@ module _ (words : List (List ℕ)) (before later : Outside) (bytes : List ℕ) (
   refused_by status (BadElf name other) field failing does is = inl is
   refused_by status (BadFile name) field failing does is = absurd (unread does.1)
   refused_by status (NotBuilt name) field failing does is = absurd does
+  refused_by status (answers.Refused name refusal) field failing does is = absurd does
 
 does_run : (words : List (List ℕ)) (only : IsAtMostOne words) (before later : Outside) (bytes : List ℕ) (region steps : ℕ) (v : Verdict) (command : Command) → (g : GivenRun words before bytes region steps) → IsCommand words command
     → Does command before later v → Runs g.file region steps before later v

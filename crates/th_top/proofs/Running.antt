@@ -1,12 +1,13 @@
 -- From a file that was read and a machine that ran to the whole of the command `run`.
-use Rattle.std.proofs.Common.{◌≡◌, ℕ, ◌≤◌, List, [], length, Option, Some, None, refl, sym, ap, subst, ◌∙◌}
+use Rattle.std.proofs.Common.{◌≡◌, ℕ, ◌≤◌, List, [], length, None, sym, ap, subst, ◌∙◌}
 use Rattle.th_elf.specs.Loadable.{first_failing, segments_of}
 use Rattle.th_elf.specs.Run.{loaded}
 use Rattle.th_mach.specs.Counted.{Counted, fresh}
 use Rattle.th_mach.specs.declared.answer.Outcome.{Outcome}
 use Rattle.th_mach.specs.declared.answer.Outcome.TheVariants.{Ended, Raised, RoomUsed, StepsUsed, Trap, ReadFault, WriteFault}
 use Rattle.th_mach.specs.Ran.{seen, Ran}
-use Rattle.th_top.specs.Outside.{Outside, Holds}
+use Rattle.th_files.specs.Reading.{Holds}
+use Rattle.th_top.specs.Outside.{Outside}
 use Rattle.th_top.specs.Answers.{Verdict, file_limit, TellsOf, RunsFile, Runs}
 use Rattle.th_top.specs.Built.{Executes}
 

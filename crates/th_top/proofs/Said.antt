@@ -1,10 +1,10 @@
 -- Texts put at the report.
-use Rattle.std.proofs.Common.{◌≡◌, ℕ, ◌≤◌, List, [], ◌++◌, length, take, drop, Option, Some, None, refl, sym, ap, ◌∙◌, subst, append-nil, append_assoc, arith, true}
+use Rattle.std.proofs.Common.{◌≡◌, ℕ, ◌≤◌, List, [], ◌++◌, length, take, drop, Option, Some, None, refl, sym, ap, ◌∙◌, subst, append-nil, append_assoc, arith, true, inl, inr}
 use Rattle.std.proofs.lemmas.List.{take-append-drop}
 use Rattle.std.proofs.Math.Seq.{take-length}
 use Rattle.std.specs.Prelude.{option_map, Result, Ok, Err, is_err, OnErr, MatchResult}
 use Rattle.th_world.specs.Outside.{Rose}
-use Rattle.th_top.specs.Report.{Report, ReportsAll, ReportsPart, reported}
+use Rattle.th_top.specs.Report.{Report, ReportsAll, ReportsPart, Reports, reported}
 
 -- what is said of an error holds of one
 pub on_err : {A E : Type 0} (r : Result A E) (P : Type 0) → is_err r ≡ true → OnErr r P → P
@@ -85,3 +85,28 @@ then_all-by result a x b r s t same first second = then_all result a b r s t (su
 
 pub part_then-by : (a x b : List ℕ) (r s : Report) → x ≡ a → ReportsPart x r s → ReportsPart (a ++ b) r s
 part_then-by a x b r s same p = part_then a b r s (subst (λ y. ReportsPart y r s) same p)
+
+-- a text that is two texts
+pub then_all-as : {A B : Type 0} (result : Result A B) (a b whole : List ℕ) (r s t : Report) → a ++ b ≡ whole → ReportsAll a r s
+    → MatchResult result (λ _. ReportsAll b s t) (λ _. ReportsPart b s t) → MatchResult result (λ _. ReportsAll whole r t) (λ _. ReportsPart whole r t)
+then_all-as result a b whole r s t same first second =
+    subst (λ w. MatchResult result (λ _. ReportsAll w r t) (λ _. ReportsPart w r t)) same (then_all result a b r s t first second)
+
+pub part_then-as : (a b whole : List ℕ) (r s : Report) → a ++ b ≡ whole → ReportsPart a r s → ReportsPart whole r s
+part_then-as a b whole r s same p = subst (λ w. ReportsPart w r s) same (part_then a b r s p)
+
+-- a text before two numbers
+pub two_behind : (p x y : List ℕ) → p ++ (x ++ y) ≡ p ++ x ++ y
+two_behind p x y = sym (append_assoc p x y)
+
+pub four_behind : (p x y z w : List ℕ) → p ++ (x ++ y ++ z ++ w) ≡ p ++ x ++ y ++ z ++ w
+four_behind p x y z w = two_behind p (x ++ y ++ z) w ∙ ap (λ l. l ++ w) (two_behind p (x ++ y) z ∙ ap (λ l. l ++ z) (two_behind p x y))
+
+-- an equal text
+pub said_as : {A B : Type 0} (result : Result A B) (a b : List ℕ) (r s : Report) → a ≡ b → MatchResult result (λ _. ReportsAll a r s) (λ _. ReportsPart a r s) → MatchResult result (λ _. ReportsAll b r s) (λ _. ReportsPart b r s)
+said_as result a b r s same said = subst (λ w. MatchResult result (λ _. ReportsAll w r s) (λ _. ReportsPart w r s)) same said
+
+-- a text that was put, or up to a fault a prefix of it
+pub reports_of : {A B : Type 0} (result : Result A B) (text : List ℕ) (r s : Report) → MatchResult result (λ _. ReportsAll text r s) (λ _. ReportsPart text r s) → Reports text r s
+reports_of (Ok x) text r s said = inl said
+reports_of (Err e) text r s said = inr said

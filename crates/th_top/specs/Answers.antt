@@ -1,5 +1,5 @@
 -- What a call of the program does: its status, its report, and what it does to files and streams.
-use Rattle.std.specs.Prelude.{◌≡◌, ℕ, zero, suc, ◌+◌, ◌/◌, ◌%◌, cond, nat_lt, ◌<◌, ◌≤◌, List, [], ◌∷◌, ◌++◌, length, Option, Some, None, option_map, codes, ◌⊎◌}
+use Rattle.std.specs.Prelude.{◌≡◌, ℕ, ◌≤◌, List, [], ◌∷◌, ◌++◌, length, slice_get, Option, Some, None, option_map, codes, ◌⊎◌}
 use Rattle.th_world.specs.Outside.{Rose, with_file}
 use Rattle.th_core.specs.Tree.{ProgramModule}
 use Rattle.th_front.specs.Form.{IsBuilt, Means}
@@ -10,7 +10,6 @@ use Rattle.th_elf.specs.Named.{name_of}
 use Rattle.th_elf.specs.Loadable.{first_failing, segments_of}
 use Rattle.th_elf.specs.Run.{loaded}
 use Rattle.th_rv.specs.declared.instr.Cause.{Cause}
-use Rattle.th_rv.specs.declared.instr.Cause.TheVariants as cause
 use Rattle.th_rv.specs.Memory.{bytes_at}
 use Rattle.th_link.specs.Agrees.{Agrees, loaded_image}
 use Rattle.th_mach.specs.declared.answer.Outcome.{Outcome}
@@ -18,8 +17,14 @@ use Rattle.th_mach.specs.declared.answer.Outcome.TheVariants.{Ended, Raised, Roo
 use Rattle.th_mach.specs.Counted.{Counted, fresh}
 use Rattle.th_mach.specs.Ran.{seen, Ran}
 use Rattle.th_words.specs.Words.{Command, Go, Run, IsCommand, IsNoCommand}
+use Rattle.th_files.specs.Reading.{Told, Holds, AreThere, IsUnread, IsUnreadAt}
+use Rattle.th_meaning.specs.Program.{ProgramModule as CheckedModule}
+use Rattle.th_accept.specs.Answers.{Accepted, Refused as RefusedFor}
+use Rattle.th_accept.specs.declared.refusal.Refusal.{Refusal}
+use Rattle.th_accept.specs.declared.refusal.Refusal.TheVariants as refusals
+use Rattle.th_top.specs.Lines.{line, cause_word, hexadecimal, refusal_text}
 use Rattle.th_top.specs.Report.{Report, Reports}
-use Rattle.th_top.specs.Outside.{Outside, Untouched, Holds}
+use Rattle.th_top.specs.Outside.{Outside, Untouched}
 
 -- the most bytes of a text and of an executable, and for `go` the bytes of the region and the most instructions of a run
 abbrev pub text_limit : ℕ
@@ -34,12 +39,13 @@ region_size = 1048576
 abbrev pub step_limit : ℕ
 step_limit = 50000000
 
--- how a command ends: all was done, a file couldn't be read or written, a text isn't built, a file isn't loadable by
+-- how a command ends: all was done, a file couldn't be read or written, a text is refused, a text isn't built, a file isn't loadable by
 -- the condition on a field, the run raised the exception of a name, it stopped for room, it used up its steps, it
 -- trapped, there was no memory, a stream failed
 pub data Verdict : Type 0 where
   Done : Verdict
   BadFile : (name : List ℕ) → Verdict
+  Refused : (name : List ℕ) → Refusal → Verdict
   NotBuilt : (name : List ℕ) → Verdict
   BadElf : (name : List ℕ) → Field → Verdict
   RunRaised : (name : List ℕ) → Verdict
@@ -53,6 +59,7 @@ pub data Verdict : Type 0 where
 abbrev pub status_of : Verdict → ℕ
 status_of Done = 0
 status_of (BadFile name) = 2
+status_of (Refused name refusal) = 3
 status_of (NotBuilt name) = 3
 status_of (BadElf name field) = 5
 status_of (RunRaised name) = 6
@@ -62,34 +69,11 @@ status_of (Trapped cause pc) = 10
 status_of NoMemory = 9
 status_of StreamFailed = 11
 
--- a line: a text and a line feed
-abbrev pub line : List ℕ → List ℕ
-line text = text ++ 10 ∷ []
-
--- the word for the cause of a trap
-abbrev pub cause_word : Cause → List ℕ
-cause_word cause.Fetch = codes "fetch"
-cause_word cause.Illegal = codes "illegal"
-cause_word cause.Jump = codes "jump"
-cause_word cause.Misaligned = codes "misaligned"
-cause_word cause.Load = codes "load"
-cause_word cause.Store = codes "store"
-cause_word cause.Ecall = codes "ecall"
-cause_word cause.Ebreak = codes "ebreak"
-
--- the digit of a number below 16, in small letters
-abbrev pub hex_digit : ℕ → ℕ
-hex_digit d = cond (nat_lt d 10) (48 + d) (87 + d)
-
--- the last k hexadecimal digits of a number
-abbrev pub hexadecimal : (k : ℕ) → ℕ → List ℕ
-hexadecimal zero n = []
-hexadecimal (suc k) n = hexadecimal k (n / 16) ++ hex_digit (n % 16) ∷ []
-
 -- what is reported of a verdict
 abbrev pub report_of : Verdict → List ℕ
 report_of Done = []
 report_of (BadFile name) = line (codes "file " ++ name)
+report_of (Refused name refusal) = name ++ codes ": " ++ line (refusal_text refusal)
 report_of (NotBuilt name) = name ++ line (codes ": not built")
 report_of (BadElf name field) = name ++ codes ": bad elf " ++ name_of field ++ 10 ∷ []
 report_of (RunRaised name) = line (codes "exception " ++ name)
@@ -99,15 +83,15 @@ report_of (Trapped cause pc) = codes "trap " ++ cause_word cause ++ codes " at "
 report_of NoMemory = line (codes "memory")
 report_of StreamFailed = line (codes "stream")
 
--- where the files are told, the file is absent or above the limit
-abbrev pub CannotRead : (limit : ℕ) → Option (List ℕ → Option (List ℕ)) → (name : List ℕ) → Type 0
-CannotRead limit None name = ⊥
-CannotRead limit (Some files) name = (files name ≡ None) ⊎ ((bytes : List ℕ) × (files name ≡ Some bytes) × (limit < length bytes))
-
 -- a file wasn't read, and nothing was done: it can't be read, or the files failed
 abbrev pub Unread : (limit : ℕ) (file : List ℕ) (before later : Outside) → Type 0
-Unread limit file before later =
-    Untouched before later × ((CannotRead limit before.files file × (later.file_faults ≡ before.file_faults)) ⊎ Rose before.file_faults later.file_faults)
+Unread limit file before later = Untouched before later × IsUnread limit before.files file before.file_faults later.file_faults
+
+-- the file of this name wasn't read and all before it were, where the files tell so much and their count of faults was the first and is the second
+pub record UnreadAmong (limit : ℕ) (told : Told) (files : List (List ℕ)) (name : List ℕ) (before later : ℕ) : Type 0 where
+  pub place : ℕ
+  pub at : IsUnreadAt limit told files place before later
+  pub named : name ≡ at.name
 
 -- what the outcome of a run tells: it ended, or a stream failed
 abbrev pub Tells : Outcome → Verdict → Type 0
@@ -141,6 +125,7 @@ abbrev pub Wrote : (out : List ℕ) (tree : ProgramModule) (before later : Outsi
 Wrote out tree before later Done = Executed out tree before later Done
 Wrote out tree before later StreamFailed = Executed out tree before later StreamFailed
 Wrote out tree before later (BadFile name) = Untouched before later × (name ≡ out) × Rose before.file_faults later.file_faults
+Wrote out tree before later (Refused name refusal) = ⊥
 Wrote out tree before later (NotBuilt name) = ⊥
 Wrote out tree before later (BadElf name field) = ⊥
 Wrote out tree before later (RunRaised name) = ⊥
@@ -149,32 +134,73 @@ Wrote out tree before later NoSteps = ⊥
 Wrote out tree before later (Trapped cause pc) = ⊥
 Wrote out tree before later NoMemory = ⊥
 
--- the program of the module in the file was executed
-pub record Went (out file : List ℕ) (before later : Outside) (verdict : Verdict) : Type 0 where
+-- the program in the one file was accepted, is of the form that is built, and was executed
+pub record Went (out : List ℕ) (files : List (List ℕ)) (before later : Outside) (verdict : Verdict) : Type 0 where
   -- the file's bytes, and the module that they mean
   pub text : List ℕ
-  pub holds : Holds before.files file text
-  pub within : length text ≤ text_limit
+  pub there : AreThere text_limit before.files files (text ∷ [])
+  pub modules : List CheckedModule
+  pub accepted : Accepted (text ∷ []) modules
   pub tree : ProgramModule
   pub means : Means text tree
   pub executed : Executed out tree before later verdict
 
+-- the number of the text that is refused
+abbrev pub text_of : Refusal → Option ℕ
+text_of (refusals.BadByte at) = Some at.text
+text_of (refusals.WideNumber at) = Some at.text
+text_of (refusals.Syntax at) = Some at.text
+text_of (refusals.MissingInterface at name) = Some at.text
+text_of (refusals.Rule number at) = Some at.text
+text_of (refusals.TooLarge what count at) = Some at.text
+text_of refusals.Memory = None
+
+-- the text that is refused is that of the file of this name
+pub record IsTextOf (files : List (List ℕ)) (name : List ℕ) (refusal : Refusal) : Type 0 where
+  pub text : ℕ
+  pub at : text_of refusal ≡ Some text
+  pub named : slice_get files text ≡ Some name
+
+-- texts of files are refused, and not accepted
+pub record RefusesTexts (files : List (List ℕ)) (name : List ℕ) (refusal : Refusal) (texts : List (List ℕ)) : Type 0 where
+  pub refused : RefusedFor texts refusal
+  pub unaccepted : (modules : List CheckedModule) → Accepted texts modules → ⊥
+  pub names : IsTextOf files name refusal
+
+-- the first file that isn't built: the first one, where its text isn't of the form, and else the second one
+abbrev pub IsUnbuilt : (files texts : List (List ℕ)) (name : List ℕ) → Type 0
+IsUnbuilt [] texts name = ⊥
+IsUnbuilt (file ∷ files) [] name = ⊥
+IsUnbuilt (file ∷ files) (text ∷ texts) name = ((name ≡ file) × (IsBuilt text → ⊥)) ⊎ ((slice_get files 0 ≡ Some name) × IsBuilt text)
+
+-- texts of files are accepted, and not built yet
+pub record LeavesUnbuilt (files : List (List ℕ)) (name : List ℕ) (texts : List (List ℕ)) : Type 0 where
+  pub modules : List CheckedModule
+  pub accepted : Accepted texts modules
+  pub unbuilt : IsUnbuilt files texts name
+
+-- the files have their texts, of which this is said
+abbrev pub OfTexts : (told : Told) (files : List (List ℕ)) → (List (List ℕ) → Type 0) → Type 0
+OfTexts told files P = (texts : List (List ℕ)) × AreThere text_limit told files texts × P texts
+
+-- nothing was done, and no file failed
+abbrev pub NothingDone : (before later : Outside) → Type 0
+NothingDone before later = Untouched before later × (later.file_faults ≡ before.file_faults)
+
 -- how the command `go` goes, by its verdict
-abbrev pub Goes : (out file : List ℕ) (before later : Outside) → Verdict → Type 0
-Goes out file before later Done = Went out file before later Done
-Goes out file before later StreamFailed = Went out file before later StreamFailed
-Goes out file before later NoMemory = Untouched before later × (later.file_faults ≡ before.file_faults)
-Goes out file before later (NotBuilt name) =
-    Untouched before later × (later.file_faults ≡ before.file_faults) × (name ≡ file)
-    × ((text : List ℕ) × Holds before.files file text × (length text ≤ text_limit) × (IsBuilt text → ⊥))
-Goes out file before later (BadFile name) =
-    ((name ≡ file) × Unread text_limit file before later)
-    ⊎ ((name ≡ out) × Untouched before later × Rose before.file_faults later.file_faults)
-Goes out file before later (BadElf name field) = ⊥
-Goes out file before later (RunRaised name) = ⊥
-Goes out file before later NoRoom = ⊥
-Goes out file before later NoSteps = ⊥
-Goes out file before later (Trapped cause pc) = ⊥
+abbrev pub Goes : (out : List ℕ) (files : List (List ℕ)) (before later : Outside) → Verdict → Type 0
+Goes out files before later Done = Went out files before later Done
+Goes out files before later StreamFailed = Went out files before later StreamFailed
+Goes out files before later NoMemory = NothingDone before later
+Goes out files before later (Refused name refusal) = NothingDone before later × OfTexts before.files files (RefusesTexts files name refusal)
+Goes out files before later (NotBuilt name) = NothingDone before later × OfTexts before.files files (LeavesUnbuilt files name)
+Goes out files before later (BadFile name) =
+    Untouched before later × (UnreadAmong text_limit before.files files name before.file_faults later.file_faults ⊎ ((name ≡ out) × Rose before.file_faults later.file_faults))
+Goes out files before later (BadElf name field) = ⊥
+Goes out files before later (RunRaised name) = ⊥
+Goes out files before later NoRoom = ⊥
+Goes out files before later NoSteps = ⊥
+Goes out files before later (Trapped cause pc) = ⊥
 
 -- what a run's outcome tells, with the machine after it
 abbrev pub TellsOf : Outcome → Counted → Verdict → Type 0
@@ -219,11 +245,12 @@ Runs file region steps before later (BadElf name field) =
     Untouched before later × (later.file_faults ≡ before.file_faults) × (name ≡ file)
     × ((bytes : List ℕ) × Holds before.files file bytes × (length bytes ≤ file_limit) × (first_failing bytes ≡ Some field))
 Runs file region steps before later (BadFile name) = (name ≡ file) × Unread file_limit file before later
+Runs file region steps before later (Refused name refusal) = ⊥
 Runs file region steps before later (NotBuilt name) = ⊥
 
 -- how a command goes, by its verdict
 abbrev pub Does : Command → (before later : Outside) → Verdict → Type 0
-Does (Go out file) before later v = Goes out file before later v
+Does (Go out files) before later v = Goes out files before later v
 Does (Run file region steps) before later v = Runs file region steps before later v
 
 -- the words are no command, and the report says so

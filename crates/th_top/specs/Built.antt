@@ -13,9 +13,12 @@ use Rattle.th_mach.specs.declared.answer.Outcome.TheVariants.{Ended, Raised, Roo
 use Rattle.th_top.specs.declared.build.Product.{Product}
 use Rattle.th_mach.specs.Ran.{seen, Ran}
 use Rattle.th_elf.specs.Lawful.{IsRegion}
-use Rattle.th_words.specs.Words.{Command, Go, Run}
+use Rattle.th_words.specs.Words.{Command, Go, Run, AreFiles}
 use Rattle.th_rv.specs.Memory.{Area, bytes_at}
-use Rattle.th_top.specs.Answers.{region_size, Verdict, TellsOf}
+use Rattle.th_files.specs.Reading.{Told, AreThere}
+use Rattle.th_meaning.specs.Program.{ProgramModule as CheckedModule}
+use Rattle.th_accept.specs.Answers.{Accepted}
+use Rattle.th_top.specs.Answers.{text_limit, region_size, Verdict, TellsOf}
 
 -- the machine was loaded from the image's written form and retired nothing yet
 abbrev pub IsLoaded : Image → Counted → Type 0
@@ -31,10 +34,20 @@ pub record IsProductOf (tree : ProgramModule) (p : Product) : Type 0 where
   pub bytes : p.bytes.items ≡ written image
   pub loaded : IsLoaded image p.machine
 
--- the product is that of the module that a text means
-pub record IsProduct (text : List ℕ) (p : Product) : Type 0 where
-  pub tree : ProgramModule
+-- the texts are one text, which means this module
+pub record MeansAlone (texts : List (List ℕ)) (tree : ProgramModule) : Type 0 where
+  pub text : List ℕ
+  pub one : texts ≡ text ∷ []
   pub means : Means text tree
+
+-- the texts of files are accepted, and the product is that of the module that their one text means
+pub record IsProduct (told : Told) (files : List (List ℕ)) (p : Product) : Type 0 where
+  pub texts : List (List ℕ)
+  pub there : AreThere text_limit told files texts
+  pub modules : List CheckedModule
+  pub accepted : Accepted texts modules
+  pub tree : ProgramModule
+  pub alone : MeansAlone texts tree
   pub product : IsProductOf tree p
 
 -- a machine that was loaded from an image whose run ends in time
@@ -79,7 +92,7 @@ pub record Executes (first : Counted) (steps : ℕ) (put left : Option (List ℕ
   pub ran : Ran steps (seen first put left read_faults write_faults []) outcome (seen last put_later left_later read_faults_later write_faults_later [])
   pub tells : TellsOf outcome last verdict
 
--- the region of a command that has one is lawful
-abbrev pub HasRegion : Command → Type 0
-HasRegion (Go out file) = Unit {0}
-HasRegion (Run file region steps) = IsRegion region
+-- what a command that was read off words has: few files, or a lawful region
+abbrev pub IsKept : Command → Type 0
+IsKept (Go out files) = AreFiles files
+IsKept (Run file region steps) = IsRegion region

@@ -15,18 +15,30 @@ use Rattle.th_elf.specs.Run.{Run as MachineRun}
 use Rattle.th_rv.specs.Step as halt
 use Rattle.th_link.specs.Agrees.{Agrees, AreBytes, image_run}
 use Rattle.th_words.specs.Words.{Go, Run, IsCommand}
+use Rattle.th_files.specs.Reading.{AreThere}
+use Rattle.th_meaning.specs.Program.{ProgramModule as CheckedModule}
+use Rattle.th_accept.specs.Answers.{Accepted}
+use Rattle.th_accept.specs.declared.refusal.Refusal.{Refusal}
 use Rattle.th_top.specs.Outside.{Outside}
-use Rattle.th_top.specs.Answers.{text_limit, file_limit, region_size, step_limit}
+use Rattle.th_top.specs.Report.{Report, Reports}
+use Rattle.th_top.specs.Answers.{Refused, NotBuilt, report_of, RefusesTexts, LeavesUnbuilt, text_limit, file_limit, region_size, step_limit}
 
--- the words are `go OUT FILE`, the files are told, and FILE is there with these bytes, within the limit
-pub record Given (words : List (List ℕ)) (before : Outside) (text : List ℕ) : Type 0 where
+-- the words are `go OUT FILES`, the files are told, and each is there with its text, within the limit
+pub record Given (words : List (List ℕ)) (before : Outside) (texts : List (List ℕ)) : Type 0 where
   pub out : List ℕ
-  pub file : List ℕ
-  pub is_command : IsCommand words (Go out file)
+  pub names : List (List ℕ)
+  pub is_command : IsCommand words (Go out names)
   pub files : List ℕ → Option (List ℕ)
   pub told : before.files ≡ Some files
-  pub there : files file ≡ Some text
-  pub within : length text ≤ text_limit
+  pub there : AreThere text_limit before.files names texts
+
+-- texts are accepted, and are one text of the form that is built
+pub record AreBuilt (texts : List (List ℕ)) : Type 0 where
+  pub modules : List CheckedModule
+  pub accepted : Accepted texts modules
+  pub text : List ℕ
+  pub one : texts ≡ text ∷ []
+  pub built : IsBuilt text
 
 -- no count of faults of the files, the input and the output rose
 pub record NoFault (before later : Outside) : Type 0 where
@@ -34,18 +46,42 @@ pub record NoFault (before later : Outside) : Type 0 where
   pub read_faults : Rose before.read_faults later.read_faults → ⊥
   pub write_faults : Rose before.write_faults later.write_faults → ⊥
 
--- a text that is built gives status 0, or 9 for want of memory
+-- texts that are built give status 0, or 9 for want of memory
 abbrev pub CompleteFor : (words : List (List ℕ)) (before later : Outside) (status : ℕ) → Type 0
 CompleteFor words before later status =
-    (text : List ℕ) → Given words before text → IsBuilt text → NoFault before later → (status ≡ 0) ⊎ (status ≡ 9)
+    (texts : List (List ℕ)) → Given words before texts → AreBuilt texts → NoFault before later → (status ≡ 0) ⊎ (status ≡ 9)
 
--- a text that isn't built gives status 3, or 9 for want of memory
+-- texts that aren't accepted or aren't built give status 3, or 9 for want of memory
 abbrev pub RefusedFor : (words : List (List ℕ)) (before later : Outside) (status : ℕ) → Type 0
 RefusedFor words before later status =
-    (text : List ℕ) → Given words before text → (IsBuilt text → ⊥) → NoFault before later → (status ≡ 3) ⊎ (status ≡ 9)
+    (texts : List (List ℕ)) → Given words before texts → (AreBuilt texts → ⊥) → NoFault before later → (status ≡ 3) ⊎ (status ≡ 9)
+
+-- what is reported of texts of files: they are refused and not accepted, by the line of the refusal
+pub record ReportsRefusal (files texts : List (List ℕ)) (report_before report_later : Report) : Type 0 where
+  pub name : List ℕ
+  pub refusal : Refusal
+  pub refuses : RefusesTexts files name refusal texts
+  pub report : Reports (report_of (Refused name refusal)) report_before report_later
+
+-- or they are accepted and not built, by the line that says so
+pub record ReportsUnbuilt (files texts : List (List ℕ)) (report_before report_later : Report) : Type 0 where
+  pub name : List ℕ
+  pub leaves : LeavesUnbuilt files name texts
+  pub report : Reports (report_of (NotBuilt name)) report_before report_later
+
+-- status 3 tells which of both holds of the texts
+abbrev pub JudgedFor : (words : List (List ℕ)) (before : Outside) (report_before report_later : Report) (status : ℕ) → Type 0
+JudgedFor words before report_before report_later status =
+    (texts : List (List ℕ)) → (g : Given words before texts) → status ≡ 3
+    → ReportsRefusal g.names texts report_before report_later ⊎ ReportsUnbuilt g.names texts report_before report_later
 
 -- the executable of this text stands at OUT and did what the source of the text does on this input
-pub record DidAsSource (words : List (List ℕ)) (before later : Outside) (text input : List ℕ) : Type 0 where
+pub record DidAsSource (words : List (List ℕ)) (before later : Outside) (texts : List (List ℕ)) (input : List ℕ) : Type 0 where
+  -- the text, which is the only one and is accepted
+  pub text : List ℕ
+  pub one : texts ≡ text ∷ []
+  pub modules : List CheckedModule
+  pub accepted : Accepted texts modules
   -- the module that the text means, and no other
   pub tree : ProgramModule
   pub means : Means text tree
@@ -53,8 +89,8 @@ pub record DidAsSource (words : List (List ℕ)) (before later : Outside) (text 
   pub image : Image
   pub agrees : Agrees image (tree ∷ [])
   pub out : List ℕ
-  pub file : List ℕ
-  pub is_command : IsCommand words (Go out file)
+  pub names : List (List ℕ)
+  pub is_command : IsCommand words (Go out names)
   pub files : later.files ≡ option_map (with_file out (written image)) before.files
   -- after so many instructions the machine with that image ended, and the source with as many turns did too, with an
   -- equal trace
@@ -71,8 +107,8 @@ pub record DidAsSource (words : List (List ℕ)) (before later : Outside) (text 
 -- status 0 says that the executable did what the source does
 abbrev pub HeadlineFor : (words : List (List ℕ)) (before later : Outside) (status : ℕ) → Type 0
 HeadlineFor words before later status =
-    (text input : List ℕ) → Given words before text → before.left ≡ Some input → AreBytes input → status ≡ 0
-    → DidAsSource words before later text input
+    (texts : List (List ℕ)) (input : List ℕ) → Given words before texts → before.left ≡ Some input → AreBytes input → status ≡ 0
+    → DidAsSource words before later texts input
 
 -- the words are `run` of a file, the files are told, and the file is there with these bytes, within the limit
 pub record GivenRun (words : List (List ℕ)) (before : Outside) (bytes : List ℕ) (region steps : ℕ) : Type 0 where

@@ -1,5 +1,5 @@
 -- What the outside of a call tells: the files, the input and the output, and the count of faults of each.
-use Rattle.std.specs.Prelude.{◌≡◌, ℕ, List, Option, Some, None}
+use Rattle.std.specs.Prelude.{◌≡◌, ℕ, List, Option}
 
 -- each content is None where it isn't told
 pub record Outside : Type 0 where
@@ -35,8 +35,3 @@ pub record Untouched (before later : Outside) : Type 0 where
   pub read_faults : later.read_faults ≡ before.read_faults
   pub put : later.put ≡ before.put
   pub write_faults : later.write_faults ≡ before.write_faults
-
--- where the files are told, the file of this name has these bytes
-abbrev pub Holds : Option (List ℕ → Option (List ℕ)) → (name text : List ℕ) → Type 0
-Holds None name text = Unit {0}
-Holds (Some files) name text = files name ≡ Some text

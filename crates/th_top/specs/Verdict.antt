@@ -7,6 +7,7 @@ use Rattle.th_top.specs.Answers as answers
 abbrev pub verdict_of : Verdict → answers.Verdict
 verdict_of code.Done = answers.Done
 verdict_of (code.BadFile name) = answers.BadFile name.now
+verdict_of (code.Refused name refusal) = answers.Refused name.now refusal
 verdict_of (code.NotBuilt name) = answers.NotBuilt name.now
 verdict_of (code.BadElf name field) = answers.BadElf name.now field
 verdict_of (code.RunRaised name) = answers.RunRaised name.items

@@ -1,9 +1,10 @@
 //! The command `go`.
 
-ghost use Rattle.std.specs.Prelude.{◌≡◌, [], string_bytes};
+ghost use Rattle.std.specs.Prelude.{◌≡◌, [], map, string_bytes};
 ghost use Rattle.th_core.specs.Tree.{ProgramModule};
 ghost use Rattle.th_mach.specs.Counted.{Counted};
 ghost use Rattle.th_mach.specs.Ran.{seen, Ran};
+ghost use Rattle.th_words.specs.Words.{AreFiles};
 ghost use Rattle.th_top.specs.Answers.{Goes, Wrote, Tells, step_limit};
 ghost use Rattle.th_top.specs.Built.{IsProductOf, Ends, IsExpected};
 ghost use Rattle.th_top.specs.Outside.{outside};
@@ -12,12 +13,8 @@ ghost use Rattle.th_top.specs.Verdict.{verdict_of};
 use crate::build::{Product, build};
 use crate::verdict::Verdict;
 use std::alloc::Global;
-use th_front::Refusal;
 use th_mach::{Machine, Outcome};
-use th_world::{FileError, Files, Sink, Source};
-
-/// The most bytes of a text.
-const TEXT_LIMIT: u32 = 2_097_152;
+use th_world::{Files, Sink, Source};
 
 /// The most instructions that a program runs.
 const STEP_LIMIT: u64 = 50_000_000;
@@ -76,29 +73,24 @@ fn write_and_run<'a, F: Files, S: Source, K: Sink>(
     verdict_of_run(execute(alloc, machine, input, output))
 }
 
-/// Reads the module, builds its executable, writes that and runs it.
+/// Reads the texts of a program, judges them, builds the executable, writes that and runs it.
 pub fn go<'a, F: Files, S: Source, K: Sink>(
     alloc: Global,
     out: &'a str,
-    file: &'a str,
+    names: &'a [String],
     files: &mut F,
     input: &mut S,
     output: &mut K,
 ) -> Verdict<'a>
-    ensures { Goes out.now file.now
+    requires { AreFiles (map string_bytes names.now) }
+    ensures { Goes out.now (map string_bytes names.now)
         (outside (F.map files.old) (F.written files.old) (F.Files.faults files.old) (S.left input.old) (S.Source.faults input.old) (K.put_bytes output.old) (K.Sink.faults output.old))
         (outside (F.map files.new) (F.written files.new) (F.Files.faults files.new) (S.left input.new) (S.Source.faults input.new) (K.put_bytes output.new) (K.Sink.faults output.new))
         (verdict_of result) }
 {
-    let text = match files.read(alloc, file, TEXT_LIMIT) {
-        Ok(text) => text,
-        Err(FileError::Memory) => return Verdict::NoMemory,
-        Err(_) => return Verdict::BadFile(file),
-    };
-    let product = match build(alloc, &text) {
+    let product = match build(alloc, names, files) {
         Ok(product) => product,
-        Err(Refusal::NotBuilt) => return Verdict::NotBuilt(file),
-        Err(Refusal::Memory) => return Verdict::NoMemory,
+        Err(verdict) => return verdict,
     };
     let Ok(name) = String::from_str(alloc, out) else {
         return Verdict::NoMemory;

@@ -3,18 +3,20 @@
 
 ghost use Rattle.std.specs.Prelude.{◌≡◌, ◌↔◌, ℕ, map, string_bytes};
 ghost use Rattle.th_top.specs.Answers.{Answers, Does};
-ghost use Rattle.th_top.specs.Complete.{CompleteFor, RefusedFor, HeadlineFor, RunCompleteFor, RunRefusedFor};
+ghost use Rattle.th_top.specs.Complete.{CompleteFor, RefusedFor, JudgedFor, HeadlineFor, RunCompleteFor, RunRefusedFor};
 ghost use Rattle.th_top.specs.Outside.{outside};
 ghost use Rattle.th_top.specs.Report.{reported};
 ghost use Rattle.th_words.specs.Decoded.{command_of};
 ghost use Rattle.th_words.specs.Words.{IsNoCommand, IsAtMostOne};
-ghost use Rattle.th_top.specs.Built.{HasRegion};
+ghost use Rattle.th_top.specs.Built.{IsKept};
 ghost use Rattle.th_top.specs.Verdict.{verdict_of};
 
 mod build;
 mod go;
+mod refusal;
 mod report;
 mod run;
+mod texts;
 mod verdict;
 
 use go::go;
@@ -36,14 +38,14 @@ fn carry_out<'a, F: Files, S: Source, K: Sink>(
     input: &mut S,
     output: &mut K,
 ) -> Verdict<'a>
-    requires { HasRegion (command_of command) }
+    requires { IsKept (command_of command) }
     ensures { Does (command_of command.entry)
         (outside (F.map files.old) (F.written files.old) (F.Files.faults files.old) (S.left input.old) (S.Source.faults input.old) (K.put_bytes output.old) (K.Sink.faults output.old))
         (outside (F.map files.new) (F.written files.new) (F.Files.faults files.new) (S.left input.new) (S.Source.faults input.new) (K.put_bytes output.new) (K.Sink.faults output.new))
         (verdict_of result) }
 {
     match command {
-        Command::Go { out, file } => go(alloc, out, file, files, input, output),
+        Command::Go { out, files: names } => go(alloc, out, names, files, input, output),
         Command::Run {
             file,
             region,
@@ -97,15 +99,21 @@ pub fn theta<F: Files, S: Source, K: Sink, E: Sink>(
     // Status 1 comes exactly where the words are no command.
     ensures command { (result ≡ 1) ↔ IsNoCommand (map string_bytes words.now) }
 
-    // A text that is built gives 0, or 9 for want of memory, where no count of faults rises.
+    // Texts that are accepted and built give 0, or 9 for want of memory, where no count of faults rises.
     ensures complete { CompleteFor (map string_bytes words.now)
         (outside (F.map files.old) (F.written files.old) (F.Files.faults files.old) (S.left input.old) (S.Source.faults input.old) (K.put_bytes output.old) (K.Sink.faults output.old))
         (outside (F.map files.new) (F.written files.new) (F.Files.faults files.new) (S.left input.new) (S.Source.faults input.new) (K.put_bytes output.new) (K.Sink.faults output.new)) result }
 
-    // A text that isn't built gives 3, or 9 for want of memory, where no count of faults rises.
+    // Texts that are not accepted or not built give 3, or 9 for want of memory, where no count of faults rises.
     ensures refused { RefusedFor (map string_bytes words.now)
         (outside (F.map files.old) (F.written files.old) (F.Files.faults files.old) (S.left input.old) (S.Source.faults input.old) (K.put_bytes output.old) (K.Sink.faults output.old))
         (outside (F.map files.new) (F.written files.new) (F.Files.faults files.new) (S.left input.new) (S.Source.faults input.new) (K.put_bytes output.new) (K.Sink.faults output.new)) result }
+
+    // Status 3 says that the texts are refused and not accepted, with the line of the refusal, or that they are accepted and not
+    // built, with the line that says so.
+    ensures judged { JudgedFor (map string_bytes words.now)
+        (outside (F.map files.old) (F.written files.old) (F.Files.faults files.old) (S.left input.old) (S.Source.faults input.old) (K.put_bytes output.old) (K.Sink.faults output.old))
+        (reported (E.put_bytes report.old) (E.Sink.faults report.old)) (reported (E.put_bytes report.new) (E.Sink.faults report.new)) result }
 
     // Status 0 says that the executable at OUT did what the source does.
     ensures headline { HeadlineFor (map string_bytes words.now)

@@ -1,10 +1,12 @@
 //! The lines of the report.
 
 ghost use Rattle.std.specs.Prelude.{◌≡◌, ◌<◌, ◌++◌, ℕ, MatchResult};
-ghost use Rattle.th_top.specs.Answers.{report_of, line, hex_digit, hexadecimal, cause_word};
+ghost use Rattle.th_top.specs.Answers.{report_of};
+ghost use Rattle.th_top.specs.Lines.{line, hex_digit, hexadecimal, cause_word};
 ghost use Rattle.th_top.specs.Report.{ReportsAll, ReportsPart, reported};
 ghost use Rattle.th_top.specs.Verdict.{verdict_of};
 
+use crate::refusal::say_refused;
 use crate::verdict::Verdict;
 use th_rv::Cause;
 use th_world::{Failed, Sink};
@@ -24,7 +26,7 @@ pub fn say<E: Sink>(report: &mut E, text: &[u8]) -> Result<(), Failed>
 }
 
 /// Puts two texts at the report, up to the first fault.
-fn say_both<E: Sink>(report: &mut E, first: &[u8], second: &[u8]) -> Result<(), Failed>
+pub fn say_both<E: Sink>(report: &mut E, first: &[u8], second: &[u8]) -> Result<(), Failed>
     ensures { MatchResult result
         (λ _. ReportsAll (first.now ++ second.now) (reported (E.put_bytes report.old) (E.faults report.old)) (reported (E.put_bytes report.new) (E.faults report.new)))
         (λ _. ReportsPart (first.now ++ second.now) (reported (E.put_bytes report.old) (E.faults report.old)) (reported (E.put_bytes report.new) (E.faults report.new))) }
@@ -36,7 +38,7 @@ fn say_both<E: Sink>(report: &mut E, first: &[u8], second: &[u8]) -> Result<(), 
 }
 
 /// Puts three texts at the report, up to the first fault.
-fn say_three<E: Sink>(
+pub fn say_three<E: Sink>(
     report: &mut E,
     first: &[u8],
     second: &[u8],
@@ -53,7 +55,7 @@ fn say_three<E: Sink>(
 }
 
 /// Puts four texts at the report, up to the first fault.
-fn say_four<E: Sink>(
+pub fn say_four<E: Sink>(
     report: &mut E,
     first: &[u8],
     second: &[u8],
@@ -131,6 +133,7 @@ pub fn say_verdict<E: Sink>(report: &mut E, verdict: &Verdict<'_>) -> Result<(),
     match verdict {
         Verdict::Done => Ok(()),
         Verdict::BadFile(name) => say_three(report, b"file ", name.as_bytes(), b"\n"),
+        Verdict::Refused(name, refusal) => say_refused(report, name, refusal),
         Verdict::NotBuilt(name) => say_both(report, name.as_bytes(), b": not built\n"),
         Verdict::BadElf(name, field) => say_four(
             report,

@@ -5,6 +5,7 @@ ghost use Rattle.th_top.specs.Answers.{status_of};
 ghost use Rattle.th_top.specs.Verdict.{verdict_of};
 
 use arrayvec::ArrayVec;
+use th_accept::Refusal;
 use th_elf::Field;
 use th_rv::Cause;
 
@@ -18,7 +19,9 @@ pub enum Verdict<'a> {
     Done,
     /// This file couldn't be read or written.
     BadFile(&'a str),
-    /// This text isn't built.
+    /// The text of this file is refused.
+    Refused(&'a str, Refusal),
+    /// The texts are accepted, and this file's isn't built yet.
     NotBuilt(&'a str),
     /// This file isn't loadable, by the condition on the field.
     BadElf(&'a str, Field),
@@ -44,6 +47,7 @@ impl Verdict<'_> {
         match self {
             Verdict::Done => 0,
             Verdict::BadFile(_) => 2,
+            Verdict::Refused(..) => 3,
             Verdict::NotBuilt(_) => 3,
             Verdict::BadElf(..) => 5,
             Verdict::RunRaised(_) => 6,

@@ -1,4 +1,4 @@
-use Rattle.th_top.proofs.Derived.{command_exactly, complete, refused, headline}
+use Rattle.th_top.proofs.Derived.{command_exactly, complete, refused, judged, headline}
 use Rattle.th_top.proofs.Ran.{run_complete, run_refused}
 use Rattle.th_top.proofs.theta.Goals as goal
 
@@ -10,6 +10,9 @@ returns-clause-complete g c = complete _ c.obey.ensures.only _ _ _ _ _ c.obey.en
 
 pub returns-clause-refused : goal.returns-clause-refused
 returns-clause-refused g c = refused _ c.obey.ensures.only _ _ _ _ _ c.obey.ensures.answers
+
+pub returns-clause-judged : goal.returns-clause-judged
+returns-clause-judged g c = judged _ c.obey.ensures.only _ _ _ _ _ c.obey.ensures.answers
 
 pub returns-clause-headline : goal.returns-clause-headline
 returns-clause-headline g c = headline _ c.obey.ensures.only _ _ _ _ _ c.obey.ensures.answers

@@ -1,4 +1,3 @@
-use Rattle.th_top.proofs.Expected.{unwatched, none_seen}
 use Rattle.th_top.proofs.RaisedNames.{named}
 use Rattle.th_top.proofs.run.execute.Goals as goal
 
