@@ -16,21 +16,12 @@ import tempfile
 
 sys.path.insert(0, str(pathlib.Path(__file__).resolve().parents[1]))
 from measure import used
+from sample import CODE
 
 MIB = 1 << 20
 SIZES = [MIB, 2 * MIB, 4 * MIB]
 MOST_BYTES = 200
 MOST_RATIO = 3.0
-
-CODE = """routine total%d(l: list$seq[shapes$shape], most: int) returns (int)
-  var s: int := 0; # the sum so far
-  for x: shapes$shape in l.elements() do
-    if x.area() > most and not (s = most) then s := s + x.area() * 2; else break; end
-  end
-  begin put_int(s / (most - 17)); except when zero_divide do put_byte(10); end
-  return s;
-end
-"""
 
 # Of each shape: what stands before, a part, and what stands behind. A part with a % is given its number.
 SHAPES = {

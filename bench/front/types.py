@@ -10,10 +10,11 @@ should be.
 """
 import os
 import pathlib
-import resource
-import subprocess
 import sys
 import tempfile
+
+sys.path.insert(0, str(pathlib.Path(__file__).resolve().parents[1]))
+from measure import answered
 
 MOST_SECONDS = 2.0
 MOST_BYTES = 200 << 20
@@ -82,18 +83,6 @@ SETS = [
 ]
 
 
-def run(program, files):
-    """What is printed of the files, the seconds of processor time, and the greatest resident memory."""
-    def limited():
-        resource.setrlimit(resource.RLIMIT_AS, (3 << 30, 3 << 30))
-        resource.setrlimit(resource.RLIMIT_CPU, (60, 60))
-    process = subprocess.Popen([program, "hierarchy", *files], preexec_fn=limited,
-                               stdout=subprocess.PIPE, stderr=subprocess.STDOUT, text=True)
-    answer = process.stdout.read()
-    _, _, usage = os.wait4(process.pid, 0)
-    return answer, usage.ru_utime + usage.ru_stime, usage.ru_maxrss * 1024
-
-
 def main():
     here = pathlib.Path(__file__).resolve().parent
     program = (sys.argv[1:] or [str(here.parent.parent / "crates/front_bench/out/front_bench")])[0]
@@ -104,7 +93,7 @@ def main():
             for k, text in enumerate(texts):
                 files.append(os.path.join(folder, f"i{k}.ti"))
                 pathlib.Path(files[-1]).write_text(text)
-            answer, seconds, memory = run(program, files)
+            answer, seconds, memory = answered(program, "hierarchy", *files)
             size = sum(len(text) for text in texts)
             print(f"{name:32} {size:9} bytes {seconds:8.3f} s {memory / (1 << 20):8.1f} MiB")
             if want not in answer:
