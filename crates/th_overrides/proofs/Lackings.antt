@@ -1,5 +1,5 @@
 -- What a class lacks, put together.
-use Rattle.std.proofs.Common.{◌≡◌, ◌↔◌, ◌∙◌, ℕ, zero, suc, ◌<◌, ◌≤◌, Bool, true, false, not, ◌&&◌, ◌||◌, nat_eq, List, [], ◌∷◌, length, Option, Some, None, option_map, is_some, refl, ap, sym, subst, ◌⊎◌, inl, inr, arith, IsTrue, true≢false, eq-eqb, if◌then◌else◌}
+use Rattle.std.proofs.Common.{◌≡◌, ◌↔◌, ◌∙◌, ℕ, zero, suc, ◌<◌, ◌≤◌, Bool, true, false, not, ◌&&◌, ◌||◌, nat_eq, List, [], ◌∷◌, length, Option, Some, None, option_map, is_some, refl, ap, sym, subst, ◌⊎◌, inl, inr, arith, IsTrue, true≢false, eq-eqb, if◌then◌else◌, Result, Ok, Err, IfOk}
 use Rattle.std.specs.List.{list_all}
 use Rattle.std.proofs.lemmas.Bool.Decides.{nat_tests}
 use Rattle.th_type.specs.declared.ty.Ty.{Ty}
@@ -58,22 +58,24 @@ module _ (C : Context) (c : ClassInfo) (n : ℕ) (s t : Signature) (hs : List Ab
   pub inherited_hidden : (r : Bool) → IsTrue r ↔ ExactWhereHidden → r ≡ false → IsTrue false ↔ InheritedFits C c n s t
   inherited_hidden r d e = refutes r d e (λ i. i.exactly)
 
-  pub inherited_same : (r x y : Bool) → IsTrue r ↔ Conforms C.types n s t → r ≡ true → IsTrue x ↔ ExactWhereHidden → x ≡ true → IsTrue y ↔ AllGiveSame C t hs → y ≡ true → IsTrue true ↔ InheritedFits C c n s t
-  inherited_same r x y d e f g h k = holds (fits_by (d.0 e) (f.0 g) (λ p. h.0 k))
+  pub inherited_free : (r x z : Bool) → IsTrue r ↔ Conforms C.types n s t → r ≡ true → IsTrue x ↔ ExactWhereHidden → x ≡ true → IsTrue z ↔ ResultIsParam C.types n t.method → z ≡ false → IsTrue true ↔ InheritedFits C c n s t
+  inherited_free r x z d e f g q k = holds (fits_by (d.0 e) (f.0 g) (λ p. absurd (true≢false (sym (q.1 p) ∙ k))))
 
-  pub inherited_fixed : (r x y z : Bool) → IsTrue r ↔ Conforms C.types n s t → r ≡ true → IsTrue x ↔ ExactWhereHidden → x ≡ true → IsTrue y ↔ AllGiveSame C t hs → y ≡ false → IsTrue z ↔ ResultIsParam C.types n t.method
-      → IsTrue (not z) ↔ InheritedFits C c n s t
-  inherited_fixed r x y z d e f g h k q =
-      not_decides z q (λ none. fits_by (d.0 e) (f.0 g) (λ p. absurd (none p))) (λ i p. true≢false (sym (h.1 (all_from i p)) ∙ k))
+  pub inherited_fixed : {E : Type 0} (r x z : Bool) (y : Result Bool E) → IsTrue r ↔ Conforms C.types n s t → r ≡ true → IsTrue x ↔ ExactWhereHidden → x ≡ true → IsTrue z ↔ ResultIsParam C.types n t.method → z ≡ true
+      → IfOk y (λ b. IsTrue b ↔ AllGiveSame C t hs) → IfOk y (λ b. IsTrue b ↔ InheritedFits C c n s t)
+  inherited_fixed r x z (Ok b) d e f g q k h = alike b h (λ same. fits_by (d.0 e) (f.0 g) (λ p. same)) (λ i. all_from i (q.0 k))
+  inherited_fixed r x z (Err e') d e f g q k h = tt
 
--- where a method is a hidden one it exactly conforms, or the test of that fails
-pub exact_seen : (C : Context) (c : ClassInfo) (s t : Signature) (hs : List AboveClass) (h : Bool) → IsChain C.items c hs → length hs ≤ length C.items
-    → h ≡ list_all (λ a. not (is_some (method_at C.types a.class.of t.method))) hs → h ≡ false → IsTrue true ↔ (is_hidden_above C c t.method ≡ true → ExactlyConforms s t)
-exact_seen C c s t hs h chain l e f = holds (λ g. absurd (true≢false (sym g ∙ sym (hidden_is C c t.method hs chain l) ∙ sym e ∙ f)))
+-- where a signature exactly conforms it does so where the method is a hidden one; else the method may be none
+pub exact_always : (C : Context) (c : ClassInfo) (s t : Signature) (r : Bool) → IsTrue r ↔ ExactlyConforms s t → r ≡ true → IsTrue r ↔ (is_hidden_above C c t.method ≡ true → ExactlyConforms s t)
+exact_always C c s t r d e = (λ h g. d.0 h, λ f. e)
 
-pub exact_hidden : (C : Context) (c : ClassInfo) (s t : Signature) (hs : List AboveClass) (h r : Bool) → IsChain C.items c hs → length hs ≤ length C.items
-    → h ≡ list_all (λ a. not (is_some (method_at C.types a.class.of t.method))) hs → h ≡ true → IsTrue r ↔ ExactlyConforms s t → IsTrue r ↔ (is_hidden_above C c t.method ≡ true → ExactlyConforms s t)
-exact_hidden C c s t hs h r chain l e f d = alike r d (λ x g. x) (λ x. x (sym (hidden_is C c t.method hs chain l) ∙ sym e ∙ f))
+pub exact_unless_hidden : (C : Context) (c : ClassInfo) (s t : Signature) (hs : List AboveClass) (h r : Bool) → IsChain C.items c hs → length hs ≤ length C.items
+    → IsTrue r ↔ ExactlyConforms s t → r ≡ false → h ≡ list_all (λ a. not (is_some (method_at C.types a.class.of t.method))) hs → IsTrue (not h) ↔ (is_hidden_above C c t.method ≡ true → ExactlyConforms s t)
+exact_unless_hidden C c s t hs h r chain l d f e =
+    not_decides h (λ x. x, λ x. x)
+    (λ seen g. absurd (seen (e ∙ hidden_is C c t.method hs chain l ∙ g)))
+    (λ exact x. true≢false (sym (d.1 (exact (sym (hidden_is C c t.method hs chain l) ∙ sym e ∙ x))) ∙ f))
 
 -- what the class above has
 pub unfit_none : (C : Context) (c : ClassInfo) (n : ℕ) (t : Signature) → None ≡ super_sig C c t.method → IsTrue false ↔ Unfit C c n t

@@ -68,11 +68,7 @@ fn is_exact_where_hidden(
     requires short { length chain.now ≤ length (items_of env.now.items.now) }
     ensures { IsTrue result ↔ (is_hidden_above (context_of env.now) (class_of class.now) of.now.method ≡ true → ExactlyConforms (sig_of sig.now) (sig_of of.now)) }
 {
-    if is_hidden(env.hierarchy, chain, of.method) {
-        sig.conforms_exactly(of)
-    } else {
-        true
-    }
+    sig.conforms_exactly(of) || !is_hidden(env.hierarchy, chain, of.method)
 }
 
 /// Whether the signature of an inherited method fits that of the type of a class, where these are the classes above.
@@ -95,11 +91,10 @@ fn inherited_fits(
     if !is_exact_where_hidden(env, class, chain, sig, of) {
         return Ok(false);
     }
-    if all_give_same(alloc, env, chain, of)? {
+    if !is_fixed(alloc, env.hierarchy, name, of.method)? {
         return Ok(true);
     }
-    let fixed = is_fixed(alloc, env.hierarchy, name, of.method)?;
-    Ok(!fixed)
+    all_give_same(alloc, env, chain, of)
 }
 
 /// Whether the class above has the method of the signature as a body that does not fit it.
