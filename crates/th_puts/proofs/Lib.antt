@@ -1,0 +1,2 @@
+pub mod PutsRun
+mod Forms
