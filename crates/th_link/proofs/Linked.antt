@@ -1,19 +1,19 @@
 -- The image of a program whose one unit puts bytes: what it is loaded as, and that it agrees with the program.
-use Rattle.std.proofs.Common.{◌≡◌, ◌≢◌, ℕ, zero, suc, ◌+◌, ◌*◌, ◌≤◌, List, [], ◌∷◌, length, map, get_or, false, nat_eq, refl, sym, ap, ◌∙◌, subst, inl, arith, lit≤}
+use Rattle.std.proofs.Common.{◌≡◌, ◌≢◌, ℕ, zero, suc, ◌+◌, ◌*◌, ◌<◌, ◌≤◌, List, [], ◌∷◌, length, map, Some, None, true, false, nat_eq, nat_lt, refl, sym, ap, ◌∙◌, subst, inl, arith, lit≤}
 use Rattle.std.specs.Prelude.{AllPairs, codes, slice_set, replicate}
 use Rattle.std.proofs.Math.ListN.{length-set}
-use Rattle.std.proofs.lemmas.Bool.{ne_eqb}
+use Rattle.std.proofs.lemmas.Bool.{ne_eqb, lt-ltb, le-ltb}
 use Rattle.std.proofs.lemmas.List.{append-nil, length-map}
 use Rattle.std.proofs.lemmas.List.Elements.{All-cons, All-nil}
 use Rattle.std.proofs.lemmas.List.Sorted.{IsPermutation-refl}
 use Rattle.th_runs.specs.Agreement.{Agreement}
-use Rattle.th_core.specs.declared.tree.CoreUnit.{CoreUnit}
-use Rattle.th_core.specs.Tree.{ProgramUnit, ProgramModule, unit_of, body_of}
-use Rattle.th_core.specs.Names.{full_name}
-use Rattle.th_core.specs.Counts.{body_nodes, program_nodes, weight}
-use Rattle.th_core.specs.Meaning.{source_run}
-use Rattle.th_core.specs.Puts.{puts_body, main_unit, main_program}
-use Rattle.th_core.proofs.PutsRun.{puts_run, puts_run-room, no_room, main_found}
+use Rattle.th_runs.specs.Stand.{Ended, NoRoom}
+use Rattle.th_meaning.specs.Program.{full_name}
+use Rattle.th_meaning.specs.Counts.{body_nodes, program_nodes}
+use Rattle.th_meaning.specs.Run.{source_run}
+use Rattle.th_puts.specs.Form.{AreBytes, PutsBytes, puts_body, puts_program}
+use Rattle.th_puts.specs.Runs.{puts_stand, puts_trace, puts_weight}
+use Rattle.th_puts.proofs.PutsRun.{runs_as_puts}
 use Rattle.th_rv.specs.Table.{encode}
 use Rattle.th_rv.specs.Step.{State}
 use Rattle.th_elf.specs.declared.image.Image.{Image}
@@ -23,9 +23,9 @@ use Rattle.th_elf.specs.Loadable.{segments_of}
 use Rattle.th_elf.specs.Run.{loaded, region, first_regs, start, names_of, entry_of, Machine, Retired, Retires, running}
 use Rattle.th_elf.specs.ReadBack.{one_segment}
 use Rattle.th_elf.proofs.Form.{written_segments}
-use Rattle.th_link.specs.Agrees.{AreBytes, loaded_image, image_run, IsCodeAddress, Agrees}
+use Rattle.th_link.specs.Agrees.{loaded_image, image_run, IsCodeAddress, Agrees}
 use Rattle.th_link.specs.Ends.{EndsInTime}
-use Rattle.th_link.specs.Puts.{PutsBytes, put_numbers, puts_code, code_words, puts_image, IsImageOf, IsLawful}
+use Rattle.th_link.specs.Puts.{puts_code, code_words, puts_image, IsLawful}
 use Rattle.th_link.proofs.Fetch.{code_area, full_area}
 use Rattle.th_link.proofs.Spots.{Before, Stands}
 use Rattle.th_link.proofs.Follows as follows
@@ -94,38 +94,50 @@ named unit w (suc k) =
     let other : nat_eq 0x00010000 (0x00010000 + 4 * suc k) ≡ false = ne_eqb 0x00010000 (0x00010000 + 4 * suc k) (omega arith) in
     rw other refl
 
--- the source of a program whose one unit puts the bytes
-source_of : (m bytes input : List ℕ) → AreBytes bytes → follows.Source (full_name m (codes "main")) (weight (main_unit m (puts_body bytes))) bytes (source_run (main_program m (puts_body bytes)) input)
-source_of m bytes input all =
-    let u : ProgramUnit = main_unit m (puts_body bytes) in
+-- how a program stands that puts bytes, with room for it and with less
+with_room : (unit : List ℕ) (w : ℕ) (bytes : List ℕ) (room : ℕ) → w ≤ room → puts_stand unit w bytes (Some room) ≡ record { end = Ended; trace = puts_trace unit bytes }
+with_room unit w bytes room le = let there : nat_lt room w ≡ false = le-ltb room w le in rw there refl
+
+without_room : (unit : List ℕ) (w : ℕ) (bytes : List ℕ) (room : ℕ) → room < w → puts_stand unit w bytes (Some room) ≡ record { end = NoRoom; trace = [] }
+without_room unit w bytes room lt = let short : nat_lt room w ≡ true = lt-ltb room w lt in rw short refl
+
+-- the program puts the bytes
+puts : (m bytes : List ℕ) → AreBytes bytes → length bytes ≤ 4999 → PutsBytes (puts_program m bytes) m bytes
+puts m bytes all few = record { is = refl; are_bytes = all; few = few }
+
+-- the source of the program
+source_of : (m bytes input : List ℕ) → AreBytes bytes → length bytes ≤ 4999 → follows.Source (full_name m (codes "main")) (puts_weight m bytes) bytes (source_run (puts_program m bytes) input)
+source_of m bytes input all few =
+    let unit : List ℕ = full_name m (codes "main") in
+    let w : ℕ = puts_weight m bytes in
     record {
-      unlimited = λ n. puts_run (main_program m (puts_body bytes)) u bytes input n (main_found m (puts_body bytes)) refl all;
-      enough = λ room n le. puts_run-room (main_program m (puts_body bytes)) u bytes input room n (main_found m (puts_body bytes)) refl all le;
-      short = λ room n lt. no_room (main_program m (puts_body bytes)) u input room n (main_found m (puts_body bytes)) lt;
+      unlimited = λ n. runs_as_puts (puts_program m bytes) m bytes (puts m bytes all few) input None n;
+      enough = λ room n le. runs_as_puts (puts_program m bytes) m bytes (puts m bytes all few) input (Some room) n ∙ with_room unit w bytes room le;
+      short = λ room n lt. runs_as_puts (puts_program m bytes) m bytes (puts m bytes all few) input (Some room) n ∙ without_room unit w bytes room lt;
     }
 
 runs_agree : (m bytes : List ℕ) → AreBytes bytes → length bytes ≤ 4999 → (input : List ℕ) (room : ℕ)
-    → Agreement (source_run (main_program m (puts_body bytes)) input) (image_run (puts_image (full_name m (codes "main")) bytes) room input) room (length (puts_code bytes))
+    → Agreement (source_run (puts_program m bytes) input) (image_run (puts_image (full_name m (codes "main")) bytes) room input) room (length (puts_code bytes))
 unfolding image_run
 runs_agree m bytes all few input room =
     let unit : List ℕ = full_name m (codes "main") in
-    let w : ℕ = weight (main_unit m (puts_body bytes)) in
-    follows.agreement unit w (puts_code bytes) (region room ∷ []) (names_of (puts_image unit bytes).map) (named unit w) (small bytes few)
-    bytes (source_run (main_program m (puts_body bytes)) input) (start (loaded_image (puts_image unit bytes) room) input) room refl (source_of m bytes input all)
+    follows.agreement unit (puts_weight m bytes) (puts_code bytes) (region room ∷ []) (names_of (puts_image unit bytes).map) (named unit (puts_weight m bytes)) (small bytes few)
+    bytes (source_run (puts_program m bytes) input) (start (loaded_image (puts_image unit bytes) room) input) room refl (source_of m bytes input all few)
     ((refl, image_starts unit bytes room few all), refl)
 
 nodes_of : (bytes : List ℕ) → body_nodes (puts_body bytes) ≡ 2 * length bytes
 nodes_of [] = refl
 nodes_of (b ∷ left) = ap (λ n. 2 + n) (nodes_of left) ∙ omega arith
 
-few_words : (m bytes : List ℕ) → 3 * length bytes + 2 ≤ 64 * program_nodes (main_program m (puts_body bytes)) + 4096
+few_words : (m bytes : List ℕ) → 3 * length bytes + 2 ≤ 64 * program_nodes (puts_program m bytes) + 4096
 few_words m bytes = omega (arith, nodes_of bytes)
 
 one_apart : (a : ℕ) → AllPairs (λ x y. x ≢ y) (a ∷ [])
 one_apart a i j d lt within = absurd (omega arith)
 
-agrees_main : (m bytes : List ℕ) → AreBytes bytes → length bytes ≤ 4999 → Agrees (puts_image (full_name m (codes "main")) bytes) (main_program m (puts_body bytes))
-agrees_main m bytes all few =
+-- the image agrees with the program
+agrees : (m bytes : List ℕ) → AreBytes bytes → length bytes ≤ 4999 → Agrees (puts_image (full_name m (codes "main")) bytes) (puts_program m bytes)
+agrees m bytes all few =
     let unit : List ℕ = full_name m (codes "main") in
     let words : ℕ = length (code_words (puts_code bytes)) in
     let InCode : Map → Type 0 = λ u. IsCodeAddress words u.at in
@@ -134,14 +146,11 @@ agrees_main m bytes all few =
       each_unit = IsPermutation-refl (unit ∷ []);
       apart = one_apart 0x00010000;
       in_code = All-cons InCode (record { at = 0x00010000; unit = unit }) [] (record { first = lit≤ tt; whole = refl; within = omega (arith, length_code bytes) }) (All-nil InCode);
-      runs = λ input room bs size. subst (Agreement (source_run (main_program m (puts_body bytes)) input) (image_run (puts_image unit bytes) room input) room) (sym (length-map (puts_code bytes) encode)) (runs_agree m bytes all few input room);
+      runs = λ input room bs size. subst (Agreement (source_run (puts_program m bytes) input) (image_run (puts_image unit bytes) room input) room) (sym (length-map (puts_code bytes) encode)) (runs_agree m bytes all few input room);
     }
 
--- the image agrees with the program of the module
-pub linked_agrees : (m : ProgramModule) (image : Image) → PutsBytes m → IsImageOf m image → Agrees image (m ∷ [])
-linked_agrees m image puts is =
-    let whole : main_program m.name (puts_body puts.bytes) ≡ m ∷ [] = ap (λ us. record { name = m.name; units = us } ∷ []) (sym puts.units) in
-    subst (Agrees image) whole (subst (λ x. Agrees x (main_program m.name (puts_body puts.bytes))) (sym (is puts.bytes puts.units)) (agrees_main m.name puts.bytes puts.are_bytes puts.few))
+pub linked_agrees : (m bytes : List ℕ) (image : Image) → AreBytes bytes → length bytes ≤ 4999 → image ≡ puts_image (full_name m (codes "main")) bytes → Agrees image (puts_program m bytes)
+linked_agrees m bytes image all few is = subst (λ x. Agrees x (puts_program m bytes)) (sym is) (agrees m bytes all few)
 
 lawful : (unit bytes : List ℕ) → length bytes ≤ 4999 → IsLawful (puts_image unit bytes)
 lawful unit bytes few = record {
@@ -151,14 +160,14 @@ lawful unit bytes few = record {
 }
 
 -- it can be written as a file
-pub linked_lawful : (m : ProgramModule) (image : Image) → PutsBytes m → IsImageOf m image → IsLawful image
-linked_lawful m image puts is = subst IsLawful (sym (is puts.bytes puts.units)) (lawful (full_name m.name (codes "main")) puts.bytes puts.few)
+pub linked_lawful : (unit bytes : List ℕ) (image : Image) → length bytes ≤ 4999 → image ≡ puts_image unit bytes → IsLawful image
+linked_lawful unit bytes image few is = subst IsLawful (sym is) (lawful unit bytes few)
 
 -- it has 3 words for each byte, and 2 more
-pub linked_few : (m : ProgramModule) (image : Image) → PutsBytes m → IsImageOf m image → length image.code ≤ 14999
-linked_few m image puts is =
-    let words : length image.code ≡ 3 * length puts.bytes + 2 = ap (λ (x : Image). length x.code) (is puts.bytes puts.units) ∙ length_code puts.bytes in
-    omega (arith, words, puts.few)
+pub linked_few : (unit bytes : List ℕ) (image : Image) → length bytes ≤ 4999 → image ≡ puts_image unit bytes → length image.code ≤ 14999
+linked_few unit bytes image few is =
+    let words : length image.code ≡ 3 * length bytes + 2 = ap (λ (x : Image). length x.code) is ∙ length_code bytes in
+    omega (arith, words, few)
 
 ends : (unit bytes : List ℕ) → AreBytes bytes → length bytes ≤ 4999 → EndsInTime (puts_image unit bytes)
 ends unit bytes all few =
@@ -171,39 +180,17 @@ ends unit bytes all few =
     after room log m retires = ending.is_after (puts_code bytes) (region room ∷ []) (small bytes few) (running (loaded_image (puts_image unit bytes) room)) log m (inl (refl, Before bytes, image_starts unit bytes room few all)) retires
 
 -- its run ends by itself
-pub linked_ends : (m : ProgramModule) (image : Image) → PutsBytes m → IsImageOf m image → EndsInTime image
-linked_ends m image puts is = subst EndsInTime (sym (is puts.bytes puts.units)) (ends (full_name m.name (codes "main")) puts.bytes puts.are_bytes puts.few)
-
-numbers_back : (bytes : List ℕ) → put_numbers (puts_body bytes) ≡ bytes
-numbers_back [] = refl
-numbers_back (b ∷ left) = ap (λ l. b ∷ l) (numbers_back left)
-
--- the one unit of the code's list is that of the tree
-first_unit : (us : List CoreUnit) (u : CoreUnit) (v : ProgramUnit) → map unit_of us ≡ v ∷ [] → u ≡ get_or us 0 u → unit_of u ≡ v
-first_unit [] u v is at = absurd (cc)
-first_unit (x ∷ us) u v is at = ap unit_of at ∙ head_is (unit_of x) v (map unit_of us) is
-  where
-    head_is : (a b : ProgramUnit) (rest : List ProgramUnit) → a ∷ rest ≡ b ∷ [] → a ≡ b
-    head_is a b rest e = cc
-
--- the numbers that the unit puts are the bytes
-pub unit_numbers : (us : List CoreUnit) (u : CoreUnit) (m bytes : List ℕ) → map unit_of us ≡ main_unit m (puts_body bytes) ∷ [] → u ≡ get_or us 0 u → put_numbers (body_of u.body) ≡ bytes
-unit_numbers us u m bytes is at = ap (λ v. put_numbers v.body) (first_unit us u (main_unit m (puts_body bytes)) is at) ∙ numbers_back bytes
+pub linked_ends : (unit bytes : List ℕ) (image : Image) → AreBytes bytes → length bytes ≤ 4999 → image ≡ puts_image unit bytes → EndsInTime image
+linked_ends unit bytes image all few is = subst EndsInTime (sym is) (ends unit bytes all few)
 
 -- an image that is entered at its first address
 abbrev pub image_with : List ℕ → List ℕ → List Map → Image
 image_with words tables units = record { code = words; tables = tables; entry = 0x00010000; map = units }
 
--- the image that is made of the unit is that of the module
-pub image_of : (m : ProgramModule) (us : List CoreUnit) (u : CoreUnit) (words : List ℕ) (tables : List ℕ) (units : List Map) → m.units ≡ map unit_of us → u ≡ get_or us 0 u
-    → words ≡ code_words (puts_code (put_numbers (body_of u.body))) → tables ≡ [] → units ≡ record { at = 0x00010000; unit = u.name } ∷ []
-    → IsImageOf m (image_with words tables units)
-image_of m us u words tables units is at code none maps bytes one =
-    let first : map unit_of us ≡ main_unit m.name (puts_body bytes) ∷ [] = sym is ∙ one in
-    let unit : unit_of u ≡ main_unit m.name (puts_body bytes) = first_unit us u (main_unit m.name (puts_body bytes)) first at in
-    let all : words ≡ code_words (puts_code bytes) = code ∙ ap (λ l. code_words (puts_code l)) (unit_numbers us u m.name bytes first at) in
-    let named : units ≡ record { at = 0x00010000; unit = full_name m.name (codes "main") } ∷ [] = maps ∙ ap (λ v. record { at = 0x00010000; unit = v.name } ∷ []) unit in
-    same_image words (code_words (puts_code bytes)) tables [] units (record { at = 0x00010000; unit = full_name m.name (codes "main") } ∷ []) all none named
+-- the image that is made of these parts
+pub image_of : (unit bytes words tables : List ℕ) (units : List Map) → words ≡ code_words (puts_code bytes) → tables ≡ [] → units ≡ record { at = 0x00010000; unit = unit } ∷ []
+    → image_with words tables units ≡ puts_image unit bytes
+image_of unit bytes words tables units code none maps = same_image words (code_words (puts_code bytes)) tables [] units (record { at = 0x00010000; unit = unit } ∷ []) code none maps
   where
     same_image : (w x s t : List ℕ) (a b : List Map) → w ≡ x → s ≡ t → a ≡ b → image_with w s a ≡ image_with x t b
     same_image w x s t a b e f g = cc

@@ -12,7 +12,7 @@ use Rattle.th_rv.specs.Memory.{Area, number_at}
 use Rattle.th_rv.specs.Table.{Valid, encode, decode}
 use Rattle.th_rv.specs.Step.{State, Act, Next, Puts, Halts, Traps, Ended, reg, set_reg, with_reg, execute, execute_found, execute_word, environment_call, step}
 use Rattle.th_rv.proofs.EncodeLemmas.{decode_encode}
-use Rattle.th_link.specs.Agrees.{AreBytes}
+use Rattle.th_puts.specs.Form.{AreBytes}
 use Rattle.th_link.specs.Puts.{puts_code, code_words}
 use Rattle.th_link.proofs.Fetch.{code_area, fetched}
 

@@ -4,19 +4,16 @@ use Rattle.std.specs.Prelude.{◌≡◌, ◌≢◌, ℕ, ◌+◌, ◌*◌, ◌%�
 use Rattle.std.specs.List.Sorted.{IsPermutation}
 use Rattle.th_runs.specs.Stand.{Stand}
 use Rattle.th_runs.specs.Agreement.{Agreement}
-use Rattle.th_core.specs.Tree.{Program, unit_names}
-use Rattle.th_core.specs.Counts.{program_nodes}
-use Rattle.th_core.specs.Meaning.{source_run}
+use Rattle.th_meaning.specs.Program.{Program, unit_names}
+use Rattle.th_meaning.specs.Counts.{program_nodes}
+use Rattle.th_meaning.specs.Run.{source_run}
 use Rattle.th_rv.specs.Step.{State}
 use Rattle.th_elf.specs.declared.image.Image.{Image}
 use Rattle.th_elf.specs.Written.{written}
 use Rattle.th_elf.specs.Loadable.{segments_of}
 use Rattle.th_elf.specs.Lawful.{IsRegion}
 use Rattle.th_elf.specs.Run.{loaded, start, run, stand, names_of}
-
--- each number of a list is a byte
-abbrev pub AreBytes : List ℕ → Type 0
-AreBytes = All (λ b. b < 256)
+use Rattle.th_puts.specs.Form.{AreBytes}
 
 -- the machine's state at the start, loaded from the file that the image is written as, with a region of so many bytes
 unfoldable pub loaded_image : Image → (room : ℕ) → State

@@ -1,33 +1,9 @@
--- Modules whose one unit `main` puts bytes, and their code.
-use Rattle.std.specs.Prelude.{◌≡◌, ℕ, ◌+◌, ◌*◌, ◌<◌, ◌≤◌, List, [], ◌∷◌, ◌++◌, length, map, flat_map, codes}
-use Rattle.th_core.specs.Tree.{Expr, Number, Stmt, PutByte, Body, Empty, Then, ProgramModule}
-use Rattle.th_core.specs.Names.{full_name}
-use Rattle.th_core.specs.Puts.{puts_body, main_unit}
+-- The code and the image of a program that puts bytes.
+use Rattle.std.specs.Prelude.{◌≡◌, ℕ, ◌+◌, ◌*◌, ◌<◌, ◌≤◌, List, [], ◌∷◌, ◌++◌, length, map, flat_map}
 use Rattle.th_rv.specs.declared.instr.Instr.{Instr}
 use Rattle.th_rv.specs.declared.instr.Instr.TheVariants.{Addi, Ecall}
 use Rattle.th_rv.specs.Table.{encode}
 use Rattle.th_elf.specs.declared.image.Image.{Image}
-use Rattle.th_link.specs.Agrees.{AreBytes}
-
--- the module's one unit is `main`, which puts at most 4,999 bytes
-pub record PutsBytes (m : ProgramModule) : Type 0 where
-  pub bytes : List ℕ
-  pub are_bytes : AreBytes bytes
-  pub few : length bytes ≤ 4999
-  pub units : m.units ≡ main_unit m.name (puts_body bytes) ∷ []
-
--- the number of an expression
-abbrev pub number_of : Expr → ℕ
-number_of (Number n) = n
-
--- the number that a statement puts
-abbrev pub put_number : Stmt → ℕ
-put_number (PutByte e) = number_of e
-
--- the numbers that statements put, in order
-abbrev pub put_numbers : Body → List ℕ
-put_numbers Empty = []
-put_numbers (Then s rest) = put_number s ∷ put_numbers rest
 
 -- the code of an environment call: its number into a7 (x17), the call
 abbrev pub call_code : ℕ → List Instr
@@ -57,10 +33,6 @@ puts_image unit bytes = record {
   entry = 0x00010000;
   map = record { at = 0x00010000; unit = unit } ∷ [];
 }
-
--- the image is that of the module, whose one unit `main` puts bytes
-abbrev pub IsImageOf : ProgramModule → Image → Type 0
-IsImageOf m image = (bytes : List ℕ) → m.units ≡ main_unit m.name (puts_body bytes) ∷ [] → image ≡ puts_image (full_name m.name (codes "main")) bytes
 
 -- the image can be written as a file and loaded from it: it is entered at its first code word, and has at most
 -- 134,152,192 bytes of code and tables

@@ -1,19 +1,8 @@
 //! The code words of a unit that puts bytes.
-ghost use Rattle.std.specs.Prelude.{◌≡◌, ◌+◌, ◌*◌, ◌<◌, ◌++◌, IfOk, OnOk, length};
-ghost use Rattle.th_core.specs.Tree.{body_of, stmt_of};
-ghost use Rattle.th_link.specs.Agrees.{AreBytes};
-ghost use Rattle.th_link.specs.Puts.{
-  put_number,
-  put_numbers,
-  call_code,
-  put_code,
-  end_code,
-  puts_code,
-  code_words,
-};
+ghost use Rattle.std.specs.Prelude.{◌≡◌, ◌<◌, ◌++◌, IfOk, OnOk};
+ghost use Rattle.th_link.specs.Puts.{call_code, code_words, put_code, puts_code};
 
 use std::alloc::{AllocError, Global};
-use th_core::{CoreBody, CoreExpr, CoreStmt};
 use th_rv::{Instr, encode};
 
 /// The register that always reads 0.
@@ -30,15 +19,6 @@ const PUT: u32 = 1;
 
 /// The call that ends the run.
 const END: u32 = 3;
-
-/// The byte that a statement puts.
-fn byte_of(stmt: &CoreStmt) -> u32
-    ensures { result ≡ put_number (stmt_of stmt.now) }
-{
-    match stmt {
-        CoreStmt::PutByte(CoreExpr::Number(n)) => *n,
-    }
-}
 
 /// Appends the words of an environment call of this number.
 fn push_call(words: &mut Vec<u32>, number: u32) -> Result<(), AllocError>
@@ -67,16 +47,14 @@ fn push_put(words: &mut Vec<u32>, byte: u32) -> Result<(), AllocError>
     push_call(words, PUT)
 }
 
-/// The words of a unit that executes these statements and ends the run.
-pub fn code_of(alloc: Global, body: &CoreBody) -> Result<Vec<u32>, AllocError>
-    requires { AreBytes (put_numbers (body_of body.now)) }
-    ensures { IfOk result (λ words. words.items ≡ code_words (puts_code (put_numbers (body_of body.now)))) }
+/// The words of a unit that puts these bytes and ends the run.
+#[tactic(auto, using(crate::proofs::Words::words_more))]
+pub fn code_of(alloc: Global, bytes: &[u8]) -> Result<Vec<u32>, AllocError>
+    ensures { IfOk result (λ words. words.items ≡ code_words (puts_code bytes.now)) }
 {
     let mut words = Vec::new(alloc);
-    let mut rest = body;
-    while let Some((first, after)) = rest.first_rest() {
-        push_put(&mut words, byte_of(first))?;
-        rest = after;
+    for &byte in bytes {
+        push_put(&mut words, byte as u32)?;
     }
     push_call(&mut words, END)?;
     Ok(words)
