@@ -1,136 +1,198 @@
-//! Checked programs and their interpreter, against docs/LANGUAGE.md, by hand.
-ghost use Rattle.std.specs.Prelude.{◌≡◌, length, IfOk};
-
+//! Programs that put bytes, their counts and their images, against docs/LANGUAGE.md and docs/FORMATS.md, by hand.
 use std::alloc::{AllocError, Global};
 use std::test::Fail;
-use th_core::{
-    CoreBody, CoreExpr, CoreModule, CoreProgram, CoreStmt, CoreUnit, End, InterpretError, depth,
-    interpret, locals, nodes,
+use th_elf::Image;
+use th_link::link;
+use th_meaning::{
+    CoreBody, CoreExpr, CoreModule, CoreSig, CoreStmt, CoreType, CoreUnit, UnitKind, depth, locals,
+    nodes,
 };
+use th_puts::puts_of;
 use th_tree::Name;
-use th_world::{MemSink, MemSource};
 
-/// A module with one unit, which puts a byte.
-fn module(alloc: Global, name: &str, unit: &str, byte: u32) -> Result<CoreModule, AllocError>
-    ensures { IfOk result (λ m. length m.units.items ≡ 1) }
-{
-    let put = CoreStmt::PutByte(CoreExpr::Number(byte));
-    let unit = CoreUnit {
-        name: Name::of(unit.as_bytes().to_vec(alloc)?),
-        body: CoreBody::Empty.then(alloc, put)?,
-    };
-    let mut units = Vec::new(alloc);
-    units.push(unit)?;
-    Ok(CoreModule {
-        name: Name::of(name.as_bytes().to_vec(alloc)?),
-        units,
+/// A name of these letters.
+fn name(alloc: Global, letters: &str) -> Result<Name, AllocError> {
+    Ok(Name::of(letters.as_bytes().to_vec(alloc)?))
+}
+
+/// The statements and one more before them.
+fn before(alloc: Global, stmt: CoreStmt, rest: CoreBody) -> Result<CoreBody, AllocError> {
+    Ok(CoreBody::MoreStmt(
+        Box::new(alloc, stmt)?,
+        Box::new(alloc, rest)?,
+    ))
+}
+
+/// Statements that put these numbers.
+fn puts(alloc: Global, numbers: &[u32]) -> Result<CoreBody, AllocError> {
+    let mut body = CoreBody::NoStmt;
+    for &number in numbers {
+        body = before(alloc, CoreStmt::PutByte(CoreExpr::Number(number)), body)?;
+    }
+    Ok(body.turned(CoreBody::NoStmt))
+}
+
+/// A routine that takes nothing, gives nothing and signals nothing.
+fn routine(alloc: Global, unit: &str, body: CoreBody) -> Result<CoreUnit, AllocError> {
+    Ok(CoreUnit {
+        name: name(alloc, unit)?,
+        kind: UnitKind::Routine,
+        params: 0,
+        clauses: Vec::new(alloc),
+        sig: CoreSig {
+            iterator: false,
+            formals: Vec::new(alloc),
+            gives: None,
+            signals: Vec::new(alloc),
+        },
+        body,
     })
 }
 
-/// The program of two modules, each with one unit, which puts a byte; `None` where they don't fit.
-fn program(
-    alloc: Global,
-    first: (&str, &str, u32),
-    second: (&str, &str, u32),
-) -> Result<Option<CoreProgram>, AllocError> {
-    let first = module(alloc, first.0, first.1, first.2)?;
-    let second = module(alloc, second.0, second.1, second.2)?;
-    let modules = vec![in alloc; first, second]?;
-    CoreProgram::of(alloc, modules)
+/// A module that declares nothing but this unit.
+fn module(alloc: Global, letters: &str, unit: CoreUnit) -> Result<CoreModule, AllocError> {
+    Ok(CoreModule {
+        name: name(alloc, letters)?,
+        interfaces: Vec::new(alloc),
+        classes: Vec::new(alloc),
+        units: vec![in alloc; unit]?,
+    })
 }
 
-/// The program that puts a byte.
-fn putting(alloc: Global, byte: u32) -> Result<Option<CoreProgram>, AllocError> {
-    program(alloc, ("hello", "hello/main", byte), ("a", "a/f", 73))
+/// The bytes that a program of one module puts, where it is of the form that is built.
+fn bytes(alloc: Global, program: CoreModule) -> Result<Option<Vec<u8>>, AllocError> {
+    let modules = vec![in alloc; program]?;
+    match puts_of(alloc, &modules)? {
+        Some(puts) => Ok(Some(puts.bytes.as_slice().to_vec(alloc)?)),
+        None => Ok(None),
+    }
 }
+
+/// The module's name, the unit's, the numbers that it puts, and the bytes where the form is one that is built.
+const FORMS: [(&str, &str, &[u32], Option<&[u8]>); 8] = [
+    ("hello", "hello/main", &[72, 105], Some(b"Hi")),
+    ("hello", "hello/main", &[], Some(b"")),
+    ("a", "a/main", &[0, 255], Some(b"\x00\xff")),
+    ("a", "a/main", &[0, 256], None),
+    ("hello", "hello/f", &[72], None),
+    ("hello", "main", &[72], None),
+    ("hello", "other/main", &[72], None),
+    ("hello", "hello/main/main", &[72], None),
+];
 
 #[test]
-fn fitting_modules(rt: HostRuntime) -> Result<(), Fail> {
-    for &(first, second, fits) in &[
-        (("hello", "hello/main", 72), ("a", "a/f", 0x7fff_ffff), true),
-        (
-            ("hello", "hello/main", 72),
-            ("a", "a/f", 0x8000_0000),
-            false,
-        ),
-        (("hello", "hello/main", 72), ("hello", "hello/f", 72), false),
-        (("hello", "hello/main", 72), ("a", "a/main", 72), false),
-        (("hello", "hello/g", 72), ("a", "a/f", 72), false),
-        (("hello", "hello/main", 72), ("a", "a/1", 72), false),
-        (("hello", "hello/main", 72), ("a", "a/end", 72), false),
-        (("hello", "hello/main", 72), ("a", "hello/f", 72), false),
-        (("hello", "hello/main", 72), ("a", "f", 72), false),
-        (("hello", "hello/main", 72), ("if", "if/f", 72), false),
-        (("hello", "hello/main", 72), ("", "/f", 72), false),
-    ] {
-        let found = program(rt.alloc(), first, second)?;
-        assert_eq!(rt; found.is_some(), fits, "{first:?} and {second:?}");
+fn forms(rt: HostRuntime) -> Result<(), Fail> {
+    let alloc = rt.alloc();
+    for &(letters, unit, numbers, found) in &FORMS {
+        let unit = routine(alloc, unit, puts(alloc, numbers)?)?;
+        let bytes = bytes(alloc, module(alloc, letters, unit)?)?;
+        assert_eq!(rt; bytes.as_deref(), found, "{letters}: {numbers:?}");
     }
     Ok(())
 }
 
-/// Numbers of units, and their names.
-const UNITS: [(u32, Option<&[u8]>); 3] = [(0, Some(b"a/f")), (1, Some(b"hello/main")), (2, None)];
+#[test]
+fn other_statements(rt: HostRuntime) -> Result<(), Fail> {
+    let alloc = rt.alloc();
+    let statements = vec![in alloc;
+        CoreStmt::PutInt(CoreExpr::Number(72)),
+        CoreStmt::PutByte(CoreExpr::Truth(true)),
+        CoreStmt::PutByte(CoreExpr::GetByte),
+        CoreStmt::Return,
+    ]?;
+    for stmt in statements {
+        let body = before(alloc, stmt, puts(alloc, &[72])?)?;
+        let unit = routine(alloc, "a/main", body)?;
+        assert!(rt; bytes(alloc, module(alloc, "a", unit)?)?.is_none());
+    }
+    Ok(())
+}
+
+/// The routine `main` of the module `a`, which puts one byte.
+fn main_of_a(alloc: Global) -> Result<CoreUnit, AllocError> {
+    routine(alloc, "a/main", puts(alloc, &[72])?)
+}
 
 #[test]
-fn units(rt: HostRuntime) -> Result<(), Fail> {
-    let program = putting(rt.alloc(), 72)?.expect(&rt, "a program");
-    for &(k, name) in &UNITS {
-        assert_eq!(rt; program.unit(k), name, "at {k}");
+fn other_signatures(rt: HostRuntime) -> Result<(), Fail> {
+    let alloc = rt.alloc();
+    let mut iterator = main_of_a(alloc)?;
+    iterator.sig.iterator = true;
+    let mut taking = main_of_a(alloc)?;
+    taking.sig.formals.push(CoreType::Int)?;
+    let mut giving = main_of_a(alloc)?;
+    giving.sig.gives = Some(CoreType::Int);
+    let mut signalling = main_of_a(alloc)?;
+    signalling.sig.signals.push(name(alloc, "e/x")?)?;
+    let mut generic = main_of_a(alloc)?;
+    generic.params = 1;
+    let mut initializer = main_of_a(alloc)?;
+    initializer.kind = UnitKind::Init(name(alloc, "a/c")?);
+    for unit in vec![in alloc; iterator, taking, giving, signalling, generic, initializer]? {
+        assert!(rt; bytes(alloc, module(alloc, "a", unit)?)?.is_none());
+    }
+    Ok(())
+}
+
+#[test]
+fn numbers_of_modules_and_units(rt: HostRuntime) -> Result<(), Fail> {
+    let alloc = rt.alloc();
+    let modules = Vec::new(alloc);
+    assert!(rt; puts_of(alloc, &modules)?.is_none());
+    let first = module(alloc, "a", main_of_a(alloc)?)?;
+    let second = module(alloc, "a", main_of_a(alloc)?)?;
+    let modules = vec![in alloc; first, second]?;
+    assert!(rt; puts_of(alloc, &modules)?.is_none());
+    let mut program = module(alloc, "a", main_of_a(alloc)?)?;
+    program.units.push(main_of_a(alloc)?)?;
+    assert!(rt; bytes(alloc, program)?.is_none());
+    Ok(())
+}
+
+#[test]
+fn most_bytes(rt: HostRuntime) -> Result<(), Fail> {
+    let alloc = rt.alloc();
+    for &(count, is_built) in &[(4999, true), (5000, false)] {
+        let mut body = CoreBody::NoStmt;
+        for _ in 0..count {
+            body = before(alloc, CoreStmt::PutByte(CoreExpr::Number(72)), body)?;
+        }
+        let unit = routine(alloc, "a/main", body)?;
+        let found = bytes(alloc, module(alloc, "a", unit)?)?;
+        assert_eq!(rt; found.is_some(), is_built, "{count}");
     }
     Ok(())
 }
 
 #[test]
 fn counts(rt: HostRuntime) -> Result<(), Fail> {
-    let module = module(rt.alloc(), "a", "a/f", 72)?;
-    let unit = module.units.as_slice().first().expect(&rt, "a unit");
-    assert_eq!(rt; [nodes(unit), locals(unit), depth(unit)], [3, 0, 1]);
+    let unit = main_of_a(rt.alloc())?;
+    assert_eq!(rt; [nodes(&unit), locals(&unit), depth(&unit)], [3, 0, 1]);
     Ok(())
 }
 
-/// A word for how a run ended.
-fn word_of(end: &End) -> &str {
-    match end {
-        End::Ended => "ended",
-        End::Raised(name) if name.as_bytes() == b"bounds".as_slice() => "raised bounds",
-        End::Raised(_) => "raised",
-        End::NoTurns => "no turns",
-        End::NoRoom => "no room",
+/// The image of a program of one module, where it is of the form that is built.
+fn image(alloc: Global, program: CoreModule) -> Result<Option<Image>, AllocError> {
+    let modules = vec![in alloc; program]?;
+    match puts_of(alloc, &modules)? {
+        Some(puts) => Ok(Some(link(alloc, &puts)?)),
+        None => Ok(None),
     }
 }
 
-/// A byte, the room, how the run that puts the byte ends, what it puts, and the units that it enters.
-const RUNS: [(u32, Option<u64>, &str, &[u8], &[u32]); 5] = [
-    (72, None, "ended", b"H", &[1]),
-    (72, Some(260), "ended", b"H", &[1]),
-    (72, Some(259), "no room", b"", &[]),
-    (255, None, "ended", b"\xff", &[1]),
-    (256, None, "raised bounds", b"", &[1]),
-];
+/// The words that put `H` and end the run.
+const WORDS: [u32; 5] = [0x0480_0513, 0x0010_0893, 0x0000_0073, 0x0030_0893, 0x0000_0073];
 
 #[test]
-fn runs(rt: HostRuntime) -> Result<(), Fail> {
+fn images(rt: HostRuntime) -> Result<(), Fail> {
     let alloc = rt.alloc();
-    for &(byte, room, end, bytes, entered) in &RUNS {
-        let program = putting(alloc, byte)?.expect(&rt, "a program");
-        let mut source = MemSource::new(Vec::new(alloc), Vec::new(alloc));
-        let mut sink = MemSink::new(alloc, 9, Vec::new(alloc))?;
-        let run = interpret(alloc, &program, &mut source, &mut sink, 0, room)?;
-        let found = (word_of(&run.end), sink.bytes(), run.entered.as_slice());
-        assert_eq!(rt; found, (end, bytes, entered), "{byte}");
-    }
-    Ok(())
-}
-
-#[test]
-fn failing_sink(rt: HostRuntime) -> Result<(), Fail> {
-    let alloc = rt.alloc();
-    let program = putting(alloc, 72)?.expect(&rt, "a program");
-    let mut source = MemSource::new(Vec::new(alloc), Vec::new(alloc));
-    let mut sink = MemSink::new(alloc, 0, Vec::new(alloc))?;
-    let answer = interpret(alloc, &program, &mut source, &mut sink, 0, None);
-    assert_eq!(rt; answer.err(), Some(InterpretError::WriteFault));
-    assert_eq!(rt; sink.bytes().len(), 0);
+    let image = image(alloc, module(alloc, "a", main_of_a(alloc)?)?)?.expect(&rt, "an image");
+    assert_eq!(rt; image.code.as_slice(), WORDS.as_slice());
+    assert_eq!(rt; image.tables.len(), 0);
+    assert_eq!(rt; image.entry, 0x0001_0000);
+    let maps = image.map.as_slice();
+    assert_eq!(rt; maps.len(), 1);
+    assert_eq!(rt; maps[0].at, 0x0001_0000);
+    assert_eq!(rt; maps[0].unit.as_slice(), b"a/main".as_slice());
     Ok(())
 }

@@ -1,18 +1,18 @@
 -- What follows from the answer of a call: when each status comes, completeness, and that the executable does what the source does.
-use Rattle.std.proofs.Common.{◌≡◌, ℕ, ◌≤◌, List, [], ◌∷◌, ◌++◌, length, slice_get, Option, Some, None, refl, sym, ap, subst, ◌∙◌, ◌⊎◌, inl, inr, arith}
+use Rattle.std.proofs.Common.{◌≡◌, ℕ, ◌≤◌, List, [], ◌∷◌, ◌++◌, length, slice_get, take, Option, Some, None, refl, sym, ap, subst, ◌∙◌, ◌⊎◌, inl, inr, arith}
 use Rattle.std.specs.Prelude.{option_map, ◌↔◌}
 use Rattle.th_world.specs.Event.{puts, takes}
 use Rattle.th_world.specs.Outside.{Rose}
 use Rattle.th_runs.specs.Stand.{Stand, End}
 use Rattle.th_runs.specs.Stand as ends
-use Rattle.th_core.specs.Tree.{ProgramModule}
-use Rattle.th_core.specs.Meaning.{source_run}
-use Rattle.th_front.specs.Form.{IsBuilt, Means}
+use Rattle.th_meaning.specs.Program.{Program}
+use Rattle.th_meaning.specs.Run.{source_run}
+use Rattle.th_puts.specs.Form.{AreBytes}
 use Rattle.th_rv.specs.Step as halt
 use Rattle.th_elf.specs.declared.image.Image.{Image}
 use Rattle.th_elf.specs.Run.{Machine, Stopped, Retired, Retires, Takes, running, stand, end_of, trace, names_of}
 use Rattle.th_elf.proofs.Logs.{retires_run}
-use Rattle.th_link.specs.Agrees.{Agrees, AreBytes, image_run, loaded_image}
+use Rattle.th_link.specs.Agrees.{Agrees, image_run, loaded_image}
 use Rattle.th_mach.specs.declared.answer.Outcome.{Outcome}
 use Rattle.th_mach.specs.declared.answer.Outcome.TheVariants.{Ended, Raised, RoomUsed, StepsUsed, Trap, ReadFault, WriteFault}
 use Rattle.th_mach.specs.Ran as mach
@@ -21,6 +21,7 @@ use Rattle.th_words.specs.Words.{Command, Go, Run, IsCommand, IsNoCommand, IsAtM
 use Rattle.th_files.specs.Reading.{Told, AreThere, IsUnread}
 use Rattle.th_accept.specs.Answers.{Accepted}
 use Rattle.th_accept.specs.declared.refusal.Refusal.{Refusal}
+use Rattle.th_top.specs.Meant.{AreOfForm}
 use Rattle.th_top.specs.Outside.{Outside}
 use Rattle.th_top.specs.Report.{Report, Reports}
 use Rattle.th_top.specs.Answers as answers
@@ -50,27 +51,25 @@ fault_by RoomUsed n middle later br bw er ew tells e = absurd tells
 fault_by StepsUsed n middle later br bw er ew tells e = absurd tells
 fault_by (Trap cause pc) n middle later br bw er ew tells e = absurd tells
 
-stream_rose : (out : List ℕ) (tree : ProgramModule) (before later : Outside) → Executed out tree before later StreamFailed
+stream_rose : (out : List ℕ) (modules : Program) (before later : Outside) → Executed out modules before later StreamFailed
     → Rose before.read_faults later.read_faults ⊎ Rose before.write_faults later.write_faults
-stream_rose out tree before later x =
+stream_rose out modules before later x =
     fault_by x.outcome (length x.ran.log) x.ran.middle _ before.read_faults before.write_faults x.ran.retiring.read_faults x.ran.retiring.write_faults x.tells x.ran.ends
 
 no_stream_fault : (before later : Outside) → NoFault before later → Rose before.read_faults later.read_faults ⊎ Rose before.write_faults later.write_faults → ⊥
 no_stream_fault before later none (inl rose) = none.read_faults rose
 no_stream_fault before later none (inr rose) = none.write_faults rose
 
-built_of : (text : List ℕ) (tree : ProgramModule) → Means text tree → IsBuilt text
-built_of text tree m = (m.name, m.numbers, m.is_text)
+-- one text has no second file
+no_second : (told : Told) (files : List (List ℕ)) (text name : List ℕ) → AreThere text_limit told files (text ∷ []) → slice_get files 1 ≡ Some name → ⊥
+no_second told [] text name there at = cc
+no_second told (file ∷ []) text name there at = cc
+no_second told (file ∷ other ∷ files) text name there at = absurd there.2
 
 -- one text of the form isn't left unbuilt
-not_unbuilt : (told : Told) (files texts : List (List ℕ)) (name text : List ℕ) → AreThere text_limit told files texts → texts ≡ text ∷ [] → IsBuilt text → IsUnbuilt files texts name → ⊥
-not_unbuilt told [] texts name text there one built unbuilt = unbuilt
-not_unbuilt told (file ∷ files) [] name text there one built unbuilt = unbuilt
-not_unbuilt told (file ∷ []) (t ∷ []) name text there one built (inl first) = let same : t ≡ text = cc in first.1 (subst IsBuilt (sym same) built)
-not_unbuilt told (file ∷ []) (t ∷ []) name text there one built (inr more) = let no : None ≡ Some name = more.0 in cc
-not_unbuilt told (file ∷ []) (t ∷ u ∷ texts) name text there one built unbuilt = cc
-not_unbuilt told (file ∷ other ∷ files) (t ∷ []) name text there one built unbuilt = absurd there.2
-not_unbuilt told (file ∷ other ∷ files) (t ∷ u ∷ texts) name text there one built unbuilt = cc
+not_unbuilt : (told : Told) (files texts : List (List ℕ)) (name text : List ℕ) → AreThere text_limit told files texts → texts ≡ text ∷ [] → AreOfForm (text ∷ []) → IsUnbuilt files texts name → ⊥
+not_unbuilt told files texts name text there one built (inl first) = first.1 (subst (λ ts. AreOfForm (take 1 ts)) (sym one) built)
+not_unbuilt told files texts name text there one built (inr second) = no_second told files text name (subst (AreThere text_limit told files) one there) second.0
 
 -- statuses of verdicts
 not_run : (words : List (List ℕ)) (only : IsAtMostOne words) (file out : List ℕ) (files : List (List ℕ)) (region steps : ℕ) → IsCommand words (Run file region steps) → IsCommand words (Go out files) → ⊥
@@ -115,10 +114,10 @@ module _ (words : List (List ℕ)) (only : IsAtMostOne words) (before later : Ou
   no_file_fault name none (inr unwritten) = none.file_faults unwritten.1
 
   not_refused : (name : List ℕ) (refusal : Refusal) → AreBuilt texts → OfTexts before.files files (RefusesTexts files name refusal) → ⊥
-  not_refused name refusal built r = r.2.unaccepted built.modules (subst (λ ts. Accepted ts built.modules) (sym (texts_are r.0 r.1)) built.accepted)
+  not_refused name refusal built r = r.2.unaccepted built.modules (subst (λ ts. Accepted ts built.modules) (sym (texts_are r.0 r.1 ∙ built.one)) built.means.accepted)
 
   not_left : (name : List ℕ) → AreBuilt texts → OfTexts before.files files (LeavesUnbuilt files name) → ⊥
-  not_left name built u = not_unbuilt before.files files u.0 name built.text u.1 (texts_are u.0 u.1 ∙ built.one) built.built u.2.unbuilt
+  not_left name built u = not_unbuilt before.files files u.0 name built.text u.1 (texts_are u.0 u.1 ∙ built.one) (built.modules, built.means) u.2.unbuilt
 
   complete_by : (status : ℕ) → AreBuilt texts → NoFault before later → (v : Verdict) → Goes out files before later v → status ≡ status_of v → (status ≡ 0) ⊎ (status ≡ 9)
   complete_by status built none Done goes is = inl is
@@ -126,7 +125,7 @@ module _ (words : List (List ℕ)) (only : IsAtMostOne words) (before later : Ou
   complete_by status built none (BadFile name) goes is = absurd (no_file_fault name none goes.1)
   complete_by status built none (answers.Refused name refusal) goes is = absurd (not_refused name refusal built goes.1)
   complete_by status built none (NotBuilt name) goes is = absurd (not_left name built goes.1)
-  complete_by status built none StreamFailed goes is = absurd (no_stream_fault before later none (stream_rose out goes.tree before later goes.executed))
+  complete_by status built none StreamFailed goes is = absurd (no_stream_fault before later none (stream_rose out goes.modules before later goes.executed))
   complete_by status built none (BadElf name field) goes is = absurd goes
   complete_by status built none (RunRaised name) goes is = absurd goes
   complete_by status built none NoRoom goes is = absurd goes
@@ -136,7 +135,7 @@ module _ (words : List (List ℕ)) (only : IsAtMostOne words) (before later : Ou
   went_built : (v : Verdict) → Went out files before later v → AreBuilt texts
   went_built v w =
       let is : w.text ∷ [] ≡ texts = texts_are (w.text ∷ []) w.there in
-      record { modules = w.modules; accepted = subst (λ ts. Accepted ts w.modules) is w.accepted; text = w.text; one = sym is; built = built_of w.text w.tree w.means }
+      record { text = w.text; one = sym is; modules = w.modules; means = w.means }
 
   refused_by : (status : ℕ) → (AreBuilt texts → ⊥) → NoFault before later → (v : Verdict) → Goes out files before later v → status ≡ status_of v → (status ≡ 3) ⊎ (status ≡ 9)
   refused_by status unbuilt none Done goes is = absurd (unbuilt (went_built Done goes))
@@ -238,33 +237,32 @@ same_stand : (a b : Stand) → a.end ≡ b.end → a.trace ≡ b.trace → a ≡
 same_stand a b e t = ap (λ x. record { end = x; trace = a.trace }) e ∙ ap (λ x. record { end = b.end; trace = x }) t
 
 -- the image's run that ended is the source's
-source_ended : (image : Image) (tree : ProgramModule) (input : List ℕ) (steps : ℕ) (t : Stand) → Agrees image (tree ∷ []) → AreBytes input → image_run image region_size input steps ≡ t → t.end ≡ ends.Ended
-    → (source_run (tree ∷ []) input None steps ≡ t)
-source_ended image tree input steps t agrees bytes is ended =
+source_ended : (image : Image) (modules : Program) (input : List ℕ) (steps : ℕ) (t : Stand) → Agrees image modules → AreBytes input → image_run image region_size input steps ≡ t → t.end ≡ ends.Ended
+    → (source_run modules input None steps ≡ t)
+source_ended image modules input steps t agrees bytes is ended =
     let over : (image_run image region_size input steps).end ≡ ends.Ended = ap (λ (x : Stand). x.end) is ∙ ended in
-    let both : ((source_run (tree ∷ []) input None steps).end ≡ ends.Ended) × ((source_run (tree ∷ []) input None steps).trace ≡ (image_run image region_size input steps).trace) =
+    let both : ((source_run modules input None steps).end ≡ ends.Ended) × ((source_run modules input None steps).trace ≡ (image_run image region_size input steps).trace) =
     (agrees.runs input region_size bytes lawful_region).ends_alike steps over in
-    same_stand (source_run (tree ∷ []) input None steps) t (both.0 ∙ sym ended) (both.1 ∙ ap (λ (x : Stand). x.trace) is)
+    same_stand (source_run modules input None steps) t (both.0 ∙ sym ended) (both.1 ∙ ap (λ (x : Stand). x.trace) is)
 
 -- a command that ended did what the source does
 module _ (words : List (List ℕ)) (only : IsAtMostOne words) (before later : Outside) (texts : List (List ℕ)) (g : Given words before texts) (input : List ℕ) (told : before.left ≡ Some input) (bytes : AreBytes input) where
   did : (out : List ℕ) (files : List (List ℕ)) → IsCommand words (Go out files) → (w : Went out files before later Done) → DidAsSource words before later texts input
   did out files go w =
-      let e : Executed out w.tree before later Done = w.executed in
+      let e : Executed out w.modules before later Done = w.executed in
       let log : List Retired = e.ran.log in
       let ended : (_ ≡ e.ran.middle) × (e.ran.middle.machine.status ≡ Stopped halt.Ended) × (length log ≤ step_limit) = ended_by e.outcome (length log) e.ran.middle _ e.tells e.ran.ends in
       let taken : (rest : List ℕ) × (e.ran.middle.left ≡ Some rest) × Takes input log rest = took_told before.left e.ran.middle.left log input e.ran.retiring.left told in
       let t : Stand = record { end = ends.Ended; trace = trace (names_of e.image.map) log } in
       let is : image_run e.image region_size input (length log) ≡ t = run_ended e.image input taken.0 log e.ran.middle.machine e.ran.retiring.retires ended.1 taken.2 in
-      let source : source_run (w.tree ∷ []) input None (length log) ≡ t = source_ended e.image w.tree input (length log) t e.agrees bytes is refl in
+      let source : source_run w.modules input None (length log) ≡ t = source_ended e.image w.modules input (length log) t e.agrees bytes is refl in
       let alone : w.text ∷ [] ≡ texts = texts_are words only before later texts g out files go (w.text ∷ []) w.there in
       record {
         text = w.text;
         one = sym alone;
         modules = w.modules;
-        accepted = subst (λ ts. Accepted ts w.modules) alone w.accepted;
-        tree = w.tree;
-        means = w.means;
+        accepted = subst (λ ts. Accepted ts w.modules) alone w.means.accepted;
+        puts_bytes = w.means.puts;
         image = e.image;
         agrees = e.agrees;
         out = out;

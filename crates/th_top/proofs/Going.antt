@@ -1,12 +1,10 @@
 -- From the parts of the command `go` to the whole.
 use Rattle.std.proofs.Common.{◌≡◌, ℕ, List, [], ◌∷◌, Option, Some, None, refl, subst, inl, inr}
 use Rattle.std.specs.Prelude.{IfSome}
-use Rattle.th_core.specs.Tree.{ProgramModule}
-use Rattle.th_front.specs.Form.{Means}
 use Rattle.th_top.specs.declared.build.Product.{Product}
 use Rattle.th_files.specs.Reading.{Holds, AreThere}
-use Rattle.th_meaning.specs.Program.{ProgramModule as CheckedModule}
-use Rattle.th_accept.specs.Answers.{Accepted}
+use Rattle.th_meaning.specs.Program.{Program}
+use Rattle.th_top.specs.Meant.{Means}
 use Rattle.th_top.specs.Outside.{Outside, Untouched}
 use Rattle.th_top.specs.Answers as answers
 use Rattle.th_top.specs.Answers.{Verdict, Done, BadFile, NotBuilt, BadElf, RunRaised, NoRoom, NoSteps, Trapped, NoMemory, StreamFailed, text_limit, Executed, Wrote, Went, Goes}
@@ -37,13 +35,13 @@ stopped out files before later NoRoom same stops = absurd stops
 stopped out files before later NoSteps same stops = absurd stops
 stopped out files before later (Trapped cause pc) same stops = absurd stops
 
--- a module's program that was written and run, or whose file couldn't be written, after its text was read and accepted
-module _ (out : List ℕ) (files : List (List ℕ)) (before later : Outside) (text : List ℕ) (modules : List CheckedModule) (tree : ProgramModule)
-    (there : AreThere text_limit before.files files (text ∷ [])) (accepted : Accepted (text ∷ []) modules) (means : Means text tree) where
-  went : (v : Verdict) → Executed out tree before later v → Went out files before later v
-  went v done = record { text = text; there = there; modules = modules; accepted = accepted; tree = tree; means = means; executed = done }
+-- a program that was written and run, or whose file couldn't be written, after its text was read and accepted
+module _ (out : List ℕ) (files : List (List ℕ)) (before later : Outside) (text : List ℕ) (modules : Program)
+    (there : AreThere text_limit before.files files (text ∷ [])) (means : Means (text ∷ []) modules) where
+  went : (v : Verdict) → Executed out modules before later v → Went out files before later v
+  went v done = record { text = text; there = there; modules = modules; means = means; executed = done }
 
-  goes_by : (v : Verdict) → Wrote out tree before later v → Goes out files before later v
+  goes_by : (v : Verdict) → Wrote out modules before later v → Goes out files before later v
   goes_by Done w = went Done w
   goes_by StreamFailed w = went StreamFailed w
   goes_by (BadFile name) w = (w.0, inr (w.1, w.2))
@@ -57,8 +55,7 @@ module _ (out : List ℕ) (files : List (List ℕ)) (before later : Outside) (te
   goes_by (Trapped cause pc) w = absurd w
 
 pub goes : (out : List ℕ) (files : List (List ℕ)) (before middle later : Outside) (v : Verdict) (p : Product) → IsProduct before.files files p → middle ≡ before
-    → ((tree : ProgramModule) → IsProductOf tree p → Wrote out tree middle later v) → Goes out files before later v
+    → ((modules : Program) → IsProductOf modules p → Wrote out modules middle later v) → Goes out files before later v
 goes out files before middle later v p is unchanged wrote =
     let there : AreThere text_limit before.files files (is.alone.text ∷ []) = subst (AreThere text_limit before.files files) is.alone.one is.there in
-    let accepted : Accepted (is.alone.text ∷ []) is.modules = subst (λ ts. Accepted ts is.modules) is.alone.one is.accepted in
-    goes_by out files before later is.alone.text is.modules is.tree there accepted is.alone.means v (subst (λ o. Wrote out is.tree o later v) unchanged (wrote is.tree is.product))
+    goes_by out files before later is.alone.text is.modules there is.alone.means v (subst (λ o. Wrote out is.modules o later v) unchanged (wrote is.modules is.product))

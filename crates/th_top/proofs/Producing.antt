@@ -1,15 +1,13 @@
--- What is built of a text: an image that can be written and loaded, and a module of bytes.
-use Rattle.std.proofs.Common.{◌≡◌, ℕ, ◌<◌, ◌≤◌, List, [], ◌∷◌, length, None, sym, ap, ◌∙◌, arith}
-use Rattle.th_core.specs.Tree.{ProgramModule}
-use Rattle.th_core.specs.Puts.{main_unit, puts_body}
-use Rattle.th_front.specs.Form.{Means}
+-- What is built of a text: an image that can be written and loaded.
+use Rattle.std.proofs.Common.{◌≡◌, ℕ, ◌<◌, ◌≤◌, List, length, None, ap, ◌∙◌, arith}
+use Rattle.th_meaning.specs.Program.{Program}
 use Rattle.th_elf.specs.declared.image.Image.{Image}
 use Rattle.th_elf.specs.Written.{written, content}
 use Rattle.th_elf.specs.Loadable.{first_failing, segments_of}
 use Rattle.th_elf.specs.Run.{loaded}
 use Rattle.th_elf.proofs.Form.{length_content, written_loadable}
 use Rattle.th_link.specs.Agrees.{loaded_image}
-use Rattle.th_link.specs.Puts.{IsLawful, PutsBytes}
+use Rattle.th_link.specs.Puts.{IsLawful}
 use Rattle.th_mach.specs.Counted.{Counted, fresh}
 use Rattle.th_top.specs.declared.build.Product.{Product}
 use Rattle.th_top.specs.Answers.{region_size}
@@ -28,16 +26,5 @@ unfolding loaded_image
 loaded_of image items bytes m file same is = is ∙ ap (λ b. fresh (loaded (segments_of b) 1048576)) (same ∙ file)
 
 -- a product's machine ends by itself
-pub ends_of : (tree : ProgramModule) (p : Product) → IsProductOf tree p → Ends p.machine
-ends_of tree p is = record { image = is.image; in_time = is.ends; lawful = is.lawful; loaded = is.loaded }
-
--- the module that a text of the form means puts bytes
-pub puts_bytes : (text : List ℕ) (tree : ProgramModule) → Means text tree → PutsBytes tree
-puts_bytes text tree m =
-    let same : ◌≡◌ {A = ProgramModule} tree (record { name = m.name; units = main_unit m.name (puts_body m.numbers) ∷ [] }) = cc in
-    record {
-      bytes = m.numbers;
-      are_bytes = λ k d below. let small = m.is_text.are.small k d below in omega (arith, small);
-      few = m.is_text.are.few;
-      units = ap (λ (t : ProgramModule). t.units) same ∙ ap (λ n. main_unit n (puts_body m.numbers) ∷ []) (sym (ap (λ (t : ProgramModule). t.name) same));
-    }
+pub ends_of : (modules : Program) (p : Product) → IsProductOf modules p → Ends p.machine
+ends_of modules p is = record { image = is.image; in_time = is.ends; lawful = is.lawful; loaded = is.loaded }

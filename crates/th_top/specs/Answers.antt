@@ -1,8 +1,6 @@
 -- What a call of the program does: its status, its report, and what it does to files and streams.
-use Rattle.std.specs.Prelude.{◌≡◌, ℕ, ◌≤◌, List, [], ◌∷◌, ◌++◌, length, slice_get, Option, Some, None, option_map, codes, ◌⊎◌}
+use Rattle.std.specs.Prelude.{◌≡◌, ℕ, ◌≤◌, List, [], ◌∷◌, ◌++◌, length, slice_get, take, Option, Some, None, option_map, codes, ◌⊎◌}
 use Rattle.th_world.specs.Outside.{Rose, with_file}
-use Rattle.th_core.specs.Tree.{ProgramModule}
-use Rattle.th_front.specs.Form.{IsBuilt, Means}
 use Rattle.th_elf.specs.declared.image.Image.{Image}
 use Rattle.th_elf.specs.Written.{written}
 use Rattle.th_elf.specs.declared.error.Field.{Field}
@@ -18,12 +16,13 @@ use Rattle.th_mach.specs.Counted.{Counted, fresh}
 use Rattle.th_mach.specs.Ran.{seen, Ran}
 use Rattle.th_words.specs.Words.{Command, Go, Run, IsCommand, IsNoCommand}
 use Rattle.th_files.specs.Reading.{Told, Holds, AreThere, IsUnread, IsUnreadAt}
-use Rattle.th_meaning.specs.Program.{ProgramModule as CheckedModule}
+use Rattle.th_meaning.specs.Program.{Program}
 use Rattle.th_accept.specs.Answers.{Accepted, Refused as RefusedFor}
 use Rattle.th_accept.specs.declared.refusal.Refusal.{Refusal}
 use Rattle.th_accept.specs.declared.refusal.Refusal.TheVariants as refusals
 use Rattle.th_top.specs.Lines.{line, cause_word, hexadecimal, refusal_text}
 use Rattle.th_top.specs.Report.{Report, Reports}
+use Rattle.th_top.specs.Meant.{AreOfForm, Means}
 use Rattle.th_top.specs.Outside.{Outside, Untouched}
 
 -- the most bytes of a text and of an executable, and for `go` the bytes of the region and the most instructions of a run
@@ -103,11 +102,11 @@ Tells RoomUsed v = ⊥
 Tells StepsUsed v = ⊥
 Tells (Trap cause pc) v = ⊥
 
--- the program of one module was written at `out` and run
-pub record Executed (out : List ℕ) (tree : ProgramModule) (before later : Outside) (verdict : Verdict) : Type 0 where
+-- the program of these modules was written at `out` and run
+pub record Executed (out : List ℕ) (modules : Program) (before later : Outside) (verdict : Verdict) : Type 0 where
   -- the image whose written form stands at `out` agrees with the program
   pub image : Image
-  pub agrees : Agrees image (tree ∷ [])
+  pub agrees : Agrees image modules
   pub files : later.files ≡ option_map (with_file out (written image)) before.files
   pub written_names : later.written ≡ option_map (λ names. names ++ out ∷ []) before.written
   pub file_faults : later.file_faults ≡ before.file_faults
@@ -121,29 +120,27 @@ pub record Executed (out : List ℕ) (tree : ProgramModule) (before later : Outs
   pub tells : Tells outcome verdict
 
 -- the program was executed, or its file couldn't be written
-abbrev pub Wrote : (out : List ℕ) (tree : ProgramModule) (before later : Outside) → Verdict → Type 0
-Wrote out tree before later Done = Executed out tree before later Done
-Wrote out tree before later StreamFailed = Executed out tree before later StreamFailed
-Wrote out tree before later (BadFile name) = Untouched before later × (name ≡ out) × Rose before.file_faults later.file_faults
-Wrote out tree before later (Refused name refusal) = ⊥
-Wrote out tree before later (NotBuilt name) = ⊥
-Wrote out tree before later (BadElf name field) = ⊥
-Wrote out tree before later (RunRaised name) = ⊥
-Wrote out tree before later NoRoom = ⊥
-Wrote out tree before later NoSteps = ⊥
-Wrote out tree before later (Trapped cause pc) = ⊥
-Wrote out tree before later NoMemory = ⊥
+abbrev pub Wrote : (out : List ℕ) (modules : Program) (before later : Outside) → Verdict → Type 0
+Wrote out modules before later Done = Executed out modules before later Done
+Wrote out modules before later StreamFailed = Executed out modules before later StreamFailed
+Wrote out modules before later (BadFile name) = Untouched before later × (name ≡ out) × Rose before.file_faults later.file_faults
+Wrote out modules before later (Refused name refusal) = ⊥
+Wrote out modules before later (NotBuilt name) = ⊥
+Wrote out modules before later (BadElf name field) = ⊥
+Wrote out modules before later (RunRaised name) = ⊥
+Wrote out modules before later NoRoom = ⊥
+Wrote out modules before later NoSteps = ⊥
+Wrote out modules before later (Trapped cause pc) = ⊥
+Wrote out modules before later NoMemory = ⊥
 
 -- the program in the one file was accepted, is of the form that is built, and was executed
 pub record Went (out : List ℕ) (files : List (List ℕ)) (before later : Outside) (verdict : Verdict) : Type 0 where
-  -- the file's bytes, and the module that they mean
+  -- the file's bytes, and the checked modules that they mean
   pub text : List ℕ
   pub there : AreThere text_limit before.files files (text ∷ [])
-  pub modules : List CheckedModule
-  pub accepted : Accepted (text ∷ []) modules
-  pub tree : ProgramModule
-  pub means : Means text tree
-  pub executed : Executed out tree before later verdict
+  pub modules : Program
+  pub means : Means (text ∷ []) modules
+  pub executed : Executed out modules before later verdict
 
 -- the number of the text that is refused
 abbrev pub text_of : Refusal → Option ℕ
@@ -164,18 +161,16 @@ pub record IsTextOf (files : List (List ℕ)) (name : List ℕ) (refusal : Refus
 -- texts of files are refused, and not accepted
 pub record RefusesTexts (files : List (List ℕ)) (name : List ℕ) (refusal : Refusal) (texts : List (List ℕ)) : Type 0 where
   pub refused : RefusedFor texts refusal
-  pub unaccepted : (modules : List CheckedModule) → Accepted texts modules → ⊥
+  pub unaccepted : (modules : Program) → Accepted texts modules → ⊥
   pub names : IsTextOf files name refusal
 
--- the first file that isn't built: the first one, where its text isn't of the form, and else the second one
+-- the first file that isn't built: the first one, where its text is not by itself of the form, and else the second one
 abbrev pub IsUnbuilt : (files texts : List (List ℕ)) (name : List ℕ) → Type 0
-IsUnbuilt [] texts name = ⊥
-IsUnbuilt (file ∷ files) [] name = ⊥
-IsUnbuilt (file ∷ files) (text ∷ texts) name = ((name ≡ file) × (IsBuilt text → ⊥)) ⊎ ((slice_get files 0 ≡ Some name) × IsBuilt text)
+IsUnbuilt files texts name = ((slice_get files 0 ≡ Some name) × (AreOfForm (take 1 texts) → ⊥)) ⊎ ((slice_get files 1 ≡ Some name) × AreOfForm (take 1 texts))
 
 -- texts of files are accepted, and not built yet
 pub record LeavesUnbuilt (files : List (List ℕ)) (name : List ℕ) (texts : List (List ℕ)) : Type 0 where
-  pub modules : List CheckedModule
+  pub modules : Program
   pub accepted : Accepted texts modules
   pub unbuilt : IsUnbuilt files texts name
 

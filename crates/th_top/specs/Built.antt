@@ -1,7 +1,5 @@
 -- What is built of a text.
 use Rattle.std.specs.Prelude.{◌≡◌, ℕ, ◌≤◌, List, [], ◌∷◌, Option, Some}
-use Rattle.th_core.specs.Tree.{ProgramModule}
-use Rattle.th_front.specs.Form.{Means}
 use Rattle.th_elf.specs.declared.image.Image.{Image}
 use Rattle.th_elf.specs.Written.{written}
 use Rattle.th_link.specs.Agrees.{Agrees, loaded_image}
@@ -16,39 +14,36 @@ use Rattle.th_elf.specs.Lawful.{IsRegion}
 use Rattle.th_words.specs.Words.{Command, Go, Run, AreFiles}
 use Rattle.th_rv.specs.Memory.{Area, bytes_at}
 use Rattle.th_files.specs.Reading.{Told, AreThere}
-use Rattle.th_meaning.specs.Program.{ProgramModule as CheckedModule}
-use Rattle.th_accept.specs.Answers.{Accepted}
+use Rattle.th_meaning.specs.Program.{Program}
+use Rattle.th_top.specs.Meant.{Means}
 use Rattle.th_top.specs.Answers.{text_limit, region_size, Verdict, TellsOf}
 
 -- the machine was loaded from the image's written form and retired nothing yet
 abbrev pub IsLoaded : Image → Counted → Type 0
 IsLoaded image c = c ≡ fresh (loaded_image image region_size)
 
--- the file is the written form of an image that agrees with a module's program and ends in time, and the machine was
--- loaded from it
-pub record IsProductOf (tree : ProgramModule) (p : Product) : Type 0 where
+-- the file is the written form of an image that agrees with a program and ends in time, and the machine was loaded from it
+pub record IsProductOf (modules : Program) (p : Product) : Type 0 where
   pub image : Image
-  pub agrees : Agrees image (tree ∷ [])
+  pub agrees : Agrees image modules
   pub ends : EndsInTime image
   pub lawful : IsLawful image
   pub bytes : p.bytes.items ≡ written image
   pub loaded : IsLoaded image p.machine
 
--- the texts are one text, which means this module
-pub record MeansAlone (texts : List (List ℕ)) (tree : ProgramModule) : Type 0 where
+-- the texts are one text, which means these checked modules
+pub record MeansAlone (texts : List (List ℕ)) (modules : Program) : Type 0 where
   pub text : List ℕ
   pub one : texts ≡ text ∷ []
-  pub means : Means text tree
+  pub means : Means (text ∷ []) modules
 
--- the texts of files are accepted, and the product is that of the module that their one text means
+-- the texts of files are one text of the form, and the product is that of its checked modules
 pub record IsProduct (told : Told) (files : List (List ℕ)) (p : Product) : Type 0 where
   pub texts : List (List ℕ)
   pub there : AreThere text_limit told files texts
-  pub modules : List CheckedModule
-  pub accepted : Accepted texts modules
-  pub tree : ProgramModule
-  pub alone : MeansAlone texts tree
-  pub product : IsProductOf tree p
+  pub modules : Program
+  pub alone : MeansAlone texts modules
+  pub product : IsProductOf modules p
 
 -- a machine that was loaded from an image whose run ends in time
 pub record Ends (c : Counted) : Type 0 where

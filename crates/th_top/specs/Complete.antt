@@ -3,9 +3,9 @@ use Rattle.std.specs.Prelude.{◌≡◌, ℕ, ◌≤◌, List, [], ◌∷◌, �
 use Rattle.th_world.specs.Event.{puts, takes}
 use Rattle.th_world.specs.Outside.{Rose, with_file}
 use Rattle.th_runs.specs.Stand.{Ended}
-use Rattle.th_core.specs.Tree.{ProgramModule}
-use Rattle.th_core.specs.Meaning.{source_run}
-use Rattle.th_front.specs.Form.{IsBuilt, Means}
+use Rattle.th_meaning.specs.Program.{Program}
+use Rattle.th_meaning.specs.Run.{source_run}
+use Rattle.th_puts.specs.Form.{AreBytes, IsPuts}
 use Rattle.th_elf.specs.declared.image.Image.{Image}
 use Rattle.th_elf.specs.Written.{written}
 use Rattle.th_elf.specs.declared.error.Field.{Field}
@@ -13,12 +13,12 @@ use Rattle.th_elf.specs.Loadable.{first_failing, segments_of}
 use Rattle.th_elf.specs.Run.{Status, Running, Stopped, Trapped, loaded, start, run, trace, no_names}
 use Rattle.th_elf.specs.Run.{Run as MachineRun}
 use Rattle.th_rv.specs.Step as halt
-use Rattle.th_link.specs.Agrees.{Agrees, AreBytes, image_run}
+use Rattle.th_link.specs.Agrees.{Agrees, image_run}
 use Rattle.th_words.specs.Words.{Go, Run, IsCommand}
 use Rattle.th_files.specs.Reading.{AreThere}
-use Rattle.th_meaning.specs.Program.{ProgramModule as CheckedModule}
 use Rattle.th_accept.specs.Answers.{Accepted}
 use Rattle.th_accept.specs.declared.refusal.Refusal.{Refusal}
+use Rattle.th_top.specs.Meant.{Means}
 use Rattle.th_top.specs.Outside.{Outside}
 use Rattle.th_top.specs.Report.{Report, Reports}
 use Rattle.th_top.specs.Answers.{Refused, NotBuilt, report_of, RefusesTexts, LeavesUnbuilt, text_limit, file_limit, region_size, step_limit}
@@ -32,13 +32,12 @@ pub record Given (words : List (List ℕ)) (before : Outside) (texts : List (Lis
   pub told : before.files ≡ Some files
   pub there : AreThere text_limit before.files names texts
 
--- texts are accepted, and are one text of the form that is built
+-- texts are one text, which is accepted and of the form that is built
 pub record AreBuilt (texts : List (List ℕ)) : Type 0 where
-  pub modules : List CheckedModule
-  pub accepted : Accepted texts modules
   pub text : List ℕ
   pub one : texts ≡ text ∷ []
-  pub built : IsBuilt text
+  pub modules : Program
+  pub means : Means (text ∷ []) modules
 
 -- no count of faults of the files, the input and the output rose
 pub record NoFault (before later : Outside) : Type 0 where
@@ -75,19 +74,18 @@ JudgedFor words before report_before report_later status =
     (texts : List (List ℕ)) → (g : Given words before texts) → status ≡ 3
     → ReportsRefusal g.names texts report_before report_later ⊎ ReportsUnbuilt g.names texts report_before report_later
 
--- the executable of this text stands at OUT and did what the source of the text does on this input
+-- the executable of these texts stands at OUT and did what the source of their checked modules does on this input
 pub record DidAsSource (words : List (List ℕ)) (before later : Outside) (texts : List (List ℕ)) (input : List ℕ) : Type 0 where
-  -- the text, which is the only one and is accepted
+  -- the text, which is the only one
   pub text : List ℕ
   pub one : texts ≡ text ∷ []
-  pub modules : List CheckedModule
+  -- the checked modules with which the texts are accepted, which are of the form that is built
+  pub modules : Program
   pub accepted : Accepted texts modules
-  -- the module that the text means, and no other
-  pub tree : ProgramModule
-  pub means : Means text tree
+  pub puts_bytes : IsPuts modules
   -- the image that agrees with the program, written at OUT
   pub image : Image
-  pub agrees : Agrees image (tree ∷ [])
+  pub agrees : Agrees image modules
   pub out : List ℕ
   pub names : List (List ℕ)
   pub is_command : IsCommand words (Go out names)
@@ -96,13 +94,13 @@ pub record DidAsSource (words : List (List ℕ)) (before later : Outside) (texts
   -- equal trace
   pub steps : ℕ
   pub few : steps ≤ step_limit
-  pub ended : (source_run (tree ∷ []) input None steps).end ≡ Ended
-  pub same : image_run image region_size input steps ≡ source_run (tree ∷ []) input None steps
+  pub ended : (source_run modules input None steps).end ≡ Ended
+  pub same : image_run image region_size input steps ≡ source_run modules input None steps
   -- the bytes put at the output and taken from the input are those of the trace
-  pub put : later.put ≡ option_map (λ bytes. bytes ++ puts (source_run (tree ∷ []) input None steps).trace) before.put
+  pub put : later.put ≡ option_map (λ bytes. bytes ++ puts (source_run modules input None steps).trace) before.put
   pub left : List ℕ
   pub left_told : later.left ≡ Some left
-  pub taken : input ≡ takes (source_run (tree ∷ []) input None steps).trace ++ left
+  pub taken : input ≡ takes (source_run modules input None steps).trace ++ left
 
 -- status 0 says that the executable did what the source does
 abbrev pub HeadlineFor : (words : List (List ℕ)) (before later : Outside) (status : ℕ) → Type 0

@@ -1,3 +1,4 @@
+pub mod Meant
 pub mod Report
 pub mod Outside
 pub mod Lines

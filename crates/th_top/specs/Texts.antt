@@ -1,6 +1,8 @@
 -- What becomes of the files of a command: why it stops before anything is written.
 use Rattle.std.specs.Prelude.{◌≡◌, ℕ, List}
 use Rattle.th_files.specs.Reading.{Told}
+use Rattle.th_meaning.specs.Program.{Program}
+use Rattle.th_puts.specs.Form.{IsPuts}
 use Rattle.th_top.specs.Answers as answers
 use Rattle.th_top.specs.Answers.{Verdict, Done, BadFile, NotBuilt, BadElf, RunRaised, NoRoom, NoSteps, Trapped, NoMemory, StreamFailed, text_limit, OfTexts, UnreadAmong, RefusesTexts, LeavesUnbuilt, IsUnbuilt}
 
@@ -31,3 +33,17 @@ StopsUnbuilt files texts NoRoom = ⊥
 StopsUnbuilt files texts NoSteps = ⊥
 StopsUnbuilt files texts (Trapped cause pc) = ⊥
 StopsUnbuilt files texts StreamFailed = ⊥
+
+-- why the program of one file, which is accepted with these checked modules, isn't built; want of memory says nothing
+abbrev pub StopsAlone : (file : List ℕ) (modules : Program) → Verdict → Type 0
+StopsAlone file modules NoMemory = Unit {0}
+StopsAlone file modules (NotBuilt name) = (name ≡ file) × (IsPuts modules → ⊥)
+StopsAlone file modules (BadFile name) = ⊥
+StopsAlone file modules (answers.Refused name refusal) = ⊥
+StopsAlone file modules Done = ⊥
+StopsAlone file modules (BadElf name field) = ⊥
+StopsAlone file modules (RunRaised name) = ⊥
+StopsAlone file modules NoRoom = ⊥
+StopsAlone file modules NoSteps = ⊥
+StopsAlone file modules (Trapped cause pc) = ⊥
+StopsAlone file modules StreamFailed = ⊥

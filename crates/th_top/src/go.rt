@@ -1,7 +1,7 @@
 //! The command `go`.
 
 ghost use Rattle.std.specs.Prelude.{◌≡◌, [], map, string_bytes};
-ghost use Rattle.th_core.specs.Tree.{ProgramModule};
+ghost use Rattle.th_meaning.specs.Program.{Program};
 ghost use Rattle.th_mach.specs.Counted.{Counted};
 ghost use Rattle.th_mach.specs.Ran.{seen, Ran};
 ghost use Rattle.th_words.specs.Words.{AreFiles};
@@ -60,8 +60,8 @@ fn write_and_run<'a, F: Files, S: Source, K: Sink>(
     output: &mut K,
 ) -> Verdict<'a>
     requires name { string_bytes name ≡ out.now }
-    requires product { (tree : ProgramModule) × IsProductOf tree product }
-    ensures { (tree : ProgramModule) → IsProductOf tree product → Wrote out.now tree
+    requires product { (modules : Program) × IsProductOf modules product }
+    ensures { (modules : Program) → IsProductOf modules product → Wrote out.now modules
         (outside (F.map files.old) (F.written files.old) (F.Files.faults files.old) (S.left input.old) (S.Source.faults input.old) (K.put_bytes output.old) (K.Sink.faults output.old))
         (outside (F.map files.new) (F.written files.new) (F.Files.faults files.new) (S.left input.new) (S.Source.faults input.new) (K.put_bytes output.new) (K.Sink.faults output.new))
         (verdict_of result) }

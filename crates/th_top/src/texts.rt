@@ -1,19 +1,24 @@
 //! The texts of files, accepted.
 
-ghost use Rattle.std.specs.Prelude.{◌≡◌, ◌≤◌, length, map, slice_get, string_bytes, ℕ, List, Some, None, IfSome, IfNone, IfOk, IfErr, OnOk};
+ghost use Rattle.std.specs.Prelude.{◌≡◌, ◌↔◌, ◌≤◌, IsTrue, length, map, slice_get, string_bytes, ℕ, List, Some, None, IfSome, IfNone, IfOk, IfErr, OnOk};
 ghost use Rattle.th_accept.specs.Answers.{Accepted, Refused};
 ghost use Rattle.th_accept.specs.declared.refusal.Refusal.TheVariants.{Memory};
 ghost use Rattle.th_files.specs.Reading.{AreThere, IsReadError, Told};
 ghost use Rattle.th_meaning.specs.Program.{ProgramModule};
+ghost use Rattle.th_meaning.specs.View.{module_of};
+ghost use Rattle.th_puts.specs.Form.{IsPuts};
 ghost use Rattle.th_words.specs.Words.{AreFiles};
 ghost use Rattle.th_top.specs.Answers.{text_limit, text_of};
+ghost use Rattle.th_top.specs.Meant.{AreOfForm};
 ghost use Rattle.th_top.specs.Texts.{Stops};
 ghost use Rattle.th_top.specs.Verdict.{verdict_of};
 
 use crate::verdict::Verdict;
-use std::alloc::Global;
+use std::alloc::{AllocError, Global};
 use th_accept::{Refusal, accept_all};
 use th_files::{ReadError, read_files};
+use th_meaning::CoreModule;
+use th_puts::puts_of;
 use th_world::Files;
 
 /// The most bytes of a text.
@@ -74,20 +79,27 @@ fn refused<'a>(names: &'a [String], refusal: Refusal) -> Verdict<'a>
     }
 }
 
-/// Demands that texts of files are accepted as a program.
-fn demand_accepted<'a>(
+/// Texts of files, and the checked modules of their program.
+#[derive(Drop)]
+pub struct Judged {
+    pub texts: Vec<Vec<u8>>,
+    pub modules: Vec<CoreModule>,
+}
+
+/// The checked modules of texts of files, where they are accepted as a program.
+fn judge<'a>(
     alloc: Global,
     names: &'a [String],
     texts: &[Vec<u8>],
-) -> Result<(), Verdict<'a>>
+) -> Result<Vec<CoreModule>, Verdict<'a>>
     requires few { length texts.now ≤ 64 }
     requires short { (k : ℕ) (t : List ℕ) → slice_get (map (λ x. x.items) texts.now) k ≡ Some t → length t ≤ 2097152 }
-    ensures accepted { IfOk result (λ _. (modules : List ProgramModule) × Accepted (map (λ x. x.items) texts.now) modules) }
+    ensures accepted { IfOk result (λ ms. Accepted (map (λ x. x.items) texts.now) (map module_of ms.items)) }
     ensures stops { IfErr result (λ v. (told : Told) (faults : ℕ) → AreThere text_limit told (map string_bytes names.now) (map (λ x. x.items) texts.now)
         → Stops told (map string_bytes names.now) faults faults (verdict_of v)) }
 {
     match accept_all(alloc, texts) {
-        Ok(_) => Ok(()),
+        Ok(modules) => Ok(modules),
         Err(refusal) => Err(refused(names, refusal)),
     }
 }
@@ -97,10 +109,10 @@ pub fn accepted_texts<'a, F: Files>(
     alloc: Global,
     names: &'a [String],
     files: &mut F,
-) -> Result<Vec<Vec<u8>>, Verdict<'a>>
+) -> Result<Judged, Verdict<'a>>
     requires { AreFiles (map string_bytes names.now) }
-    ensures there { IfOk result (λ texts. AreThere text_limit (F.map files.old) (map string_bytes names.now) (map (λ t. t.items) texts.items)) }
-    ensures accepted { IfOk result (λ texts. (modules : List ProgramModule) × Accepted (map (λ t. t.items) texts.items) modules) }
+    ensures there { IfOk result (λ j. AreThere text_limit (F.map files.old) (map string_bytes names.now) (map (λ t. t.items) j.texts.items)) }
+    ensures accepted { IfOk result (λ j. Accepted (map (λ t. t.items) j.texts.items) (map module_of j.modules.items)) }
     ensures no_fault { OnOk result (F.faults files.new ≡ F.faults files.old) }
     ensures stops { IfErr result (λ v. Stops (F.map files.old) (map string_bytes names.now) (F.faults files.old) (F.faults files.new) (verdict_of v)) }
     ensures same_files { F.map files.new ≡ F.map files.old }
@@ -110,8 +122,33 @@ pub fn accepted_texts<'a, F: Files>(
         Ok(texts) => texts,
         Err(error) => return Err(unread(names, error)),
     };
-    match demand_accepted(alloc, names, &texts) {
-        Ok(()) => Ok(texts),
+    match judge(alloc, names, &texts) {
+        Ok(modules) => Ok(Judged { texts, modules }),
         Err(verdict) => Err(verdict),
+    }
+}
+
+/// Whether checked modules are a program that puts bytes.
+fn are_puts(alloc: Global, modules: &[CoreModule]) -> Result<bool, AllocError>
+    ensures { IfOk result (λ is. IsTrue is ↔ IsPuts (map module_of modules.now)) }
+{
+    match puts_of(alloc, modules)? {
+        Some(_) => Ok(true),
+        None => Ok(false),
+    }
+}
+
+/// Whether texts are of the form that is built.
+pub fn are_of_form(alloc: Global, texts: &[Vec<u8>]) -> Result<bool, AllocError>
+    requires few { length texts.now ≤ 64 }
+    requires short { (k : ℕ) (t : List ℕ) → slice_get (map (λ x. x.items) texts.now) k ≡ Some t → length t ≤ 2097152 }
+    ensures { IfOk result (λ is. IsTrue is ↔ AreOfForm (map (λ x. x.items) texts.now)) }
+{
+    match accept_all(alloc, texts) {
+        Ok(modules) => are_puts(alloc, &modules),
+        Err(refusal) => match text_of(&refusal) {
+            Some(_) => Ok(false),
+            None => Err(AllocError),
+        },
     }
 }

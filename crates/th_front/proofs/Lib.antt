@@ -1,4 +1,0 @@
-pub mod Lookup
-pub mod Lists
-pub mod Names
-pub mod Lexed
