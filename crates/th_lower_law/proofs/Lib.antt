@@ -1,4 +1,4 @@
-mod Lengths
+pub mod Lengths
 pub mod Levels
 pub mod Onward
 mod Everywhere

@@ -1,0 +1,11 @@
+pub mod Follow
+pub mod Acts
+pub mod Places
+pub mod Ops
+pub mod Calls
+pub mod Exprs
+pub mod Ways
+pub mod Stmts
+pub mod Units
+pub mod Pieces
+pub mod Origins

@@ -1,0 +1,5 @@
+pub mod Sources
+pub mod Evaluation
+pub mod Levels
+pub mod Modules
+pub mod Laws
