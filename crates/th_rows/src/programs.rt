@@ -17,10 +17,7 @@ fn name(alloc: Global, letters: &str) -> Result<Name, AllocError> {
 
 /// The statements and one more before them.
 fn before(alloc: Global, stmt: CoreStmt, rest: CoreBody) -> Result<CoreBody, AllocError> {
-    Ok(CoreBody::MoreStmt(
-        Box::new(alloc, stmt)?,
-        Box::new(alloc, rest)?,
-    ))
+    Ok(CoreBody::MoreStmt(Box::new(alloc, stmt)?, Box::new(alloc, rest)?))
 }
 
 /// Statements that put these numbers.
@@ -181,7 +178,13 @@ fn image(alloc: Global, program: CoreModule) -> Result<Option<Image>, AllocError
 }
 
 /// The words that put `H` and end the run.
-const WORDS: [u32; 5] = [0x0480_0513, 0x0010_0893, 0x0000_0073, 0x0030_0893, 0x0000_0073];
+const WORDS: [u32; 5] = [
+    0x0480_0513,
+    0x0010_0893,
+    0x0000_0073,
+    0x0030_0893,
+    0x0000_0073,
+];
 
 #[test]
 fn images(rt: HostRuntime) -> Result<(), Fail> {
