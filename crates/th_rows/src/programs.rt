@@ -110,39 +110,88 @@ fn main_of_a(alloc: Global) -> Result<CoreUnit, AllocError> {
     routine(alloc, "a/main", puts(alloc, &[72])?)
 }
 
+/// Whether the module `a` of this unit alone is of the form that is built.
+fn is_built(alloc: Global, unit: CoreUnit) -> Result<bool, AllocError> {
+    Ok(bytes(alloc, module(alloc, "a", unit)?)?.is_some())
+}
+
 #[test]
-fn other_signatures(rt: HostRuntime) -> Result<(), Fail> {
-    let alloc = rt.alloc();
-    let mut iterator = main_of_a(alloc)?;
-    iterator.sig.iterator = true;
-    let mut taking = main_of_a(alloc)?;
-    taking.sig.formals.push(CoreType::Int)?;
-    let mut giving = main_of_a(alloc)?;
-    giving.sig.gives = Some(CoreType::Int);
-    let mut signalling = main_of_a(alloc)?;
-    signalling.sig.signals.push(name(alloc, "e/x")?)?;
-    let mut generic = main_of_a(alloc)?;
-    generic.params = 1;
-    let mut initializer = main_of_a(alloc)?;
-    initializer.kind = UnitKind::Init(name(alloc, "a/c")?);
-    for unit in vec![in alloc; iterator, taking, giving, signalling, generic, initializer]? {
-        assert!(rt; bytes(alloc, module(alloc, "a", unit)?)?.is_none());
-    }
+fn main_that_is_an_iterator(rt: HostRuntime) -> Result<(), Fail> {
+    let mut unit = main_of_a(rt.alloc())?;
+    unit.sig.iterator = true;
+    assert!(rt; !is_built(rt.alloc(), unit)?);
     Ok(())
 }
 
 #[test]
-fn numbers_of_modules_and_units(rt: HostRuntime) -> Result<(), Fail> {
-    let alloc = rt.alloc();
-    let modules = Vec::new(alloc);
-    assert!(rt; puts_of(alloc, &modules)?.is_none());
-    let first = module(alloc, "a", main_of_a(alloc)?)?;
-    let second = module(alloc, "a", main_of_a(alloc)?)?;
-    let modules = vec![in alloc; first, second]?;
-    assert!(rt; puts_of(alloc, &modules)?.is_none());
-    let mut program = module(alloc, "a", main_of_a(alloc)?)?;
-    program.units.push(main_of_a(alloc)?)?;
-    assert!(rt; bytes(alloc, program)?.is_none());
+fn main_that_takes(rt: HostRuntime) -> Result<(), Fail> {
+    let mut unit = main_of_a(rt.alloc())?;
+    unit.sig.formals.push(CoreType::Int)?;
+    assert!(rt; !is_built(rt.alloc(), unit)?);
+    Ok(())
+}
+
+#[test]
+fn main_that_gives(rt: HostRuntime) -> Result<(), Fail> {
+    let mut unit = main_of_a(rt.alloc())?;
+    unit.sig.gives = Some(CoreType::Int);
+    assert!(rt; !is_built(rt.alloc(), unit)?);
+    Ok(())
+}
+
+#[test]
+fn main_that_signals(rt: HostRuntime) -> Result<(), Fail> {
+    let signal = name(rt.alloc(), "e/x")?;
+    let mut unit = main_of_a(rt.alloc())?;
+    unit.sig.signals.push(signal)?;
+    assert!(rt; !is_built(rt.alloc(), unit)?);
+    Ok(())
+}
+
+#[test]
+fn generic_main(rt: HostRuntime) -> Result<(), Fail> {
+    let mut unit = main_of_a(rt.alloc())?;
+    unit.params = 1;
+    assert!(rt; !is_built(rt.alloc(), unit)?);
+    Ok(())
+}
+
+#[test]
+fn an_initializer(rt: HostRuntime) -> Result<(), Fail> {
+    let class = name(rt.alloc(), "a/c")?;
+    let mut unit = main_of_a(rt.alloc())?;
+    unit.kind = UnitKind::Init(class);
+    assert!(rt; !is_built(rt.alloc(), unit)?);
+    Ok(())
+}
+
+#[test]
+fn no_module(rt: HostRuntime) -> Result<(), Fail> {
+    let modules = Vec::new(rt.alloc());
+    assert!(rt; puts_of(rt.alloc(), &modules)?.is_none());
+    Ok(())
+}
+
+/// The module `a` of one routine `main`.
+fn module_a(alloc: Global) -> Result<CoreModule, AllocError> {
+    module(alloc, "a", main_of_a(alloc)?)
+}
+
+#[test]
+fn two_modules(rt: HostRuntime) -> Result<(), Fail> {
+    let first = module_a(rt.alloc())?;
+    let second = module_a(rt.alloc())?;
+    let modules = vec![in rt.alloc(); first, second]?;
+    assert!(rt; puts_of(rt.alloc(), &modules)?.is_none());
+    Ok(())
+}
+
+#[test]
+fn two_units(rt: HostRuntime) -> Result<(), Fail> {
+    let second = main_of_a(rt.alloc())?;
+    let mut program = module_a(rt.alloc())?;
+    program.units.push(second)?;
+    assert!(rt; bytes(rt.alloc(), program)?.is_none());
     Ok(())
 }
 
