@@ -11,24 +11,23 @@ ghost use Rattle.th_views.specs.Shapes.{Shape, base_name, names_of, shape_of, sh
 use crate::ranks::{rank_at, ranks_of};
 use std::alloc::{AllocError, Global};
 use std::collections::HashMap;
-use th_hier::Hierarchy;
 use th_shape::first_places;
-use th_type::Ty;
+use th_type::{Lattice, Ty};
 use th_views::ClassShape;
 
 /// Whether a number is that of a declared type.
-fn is_declared(hierarchy: &Hierarchy, number: u32) -> bool
-    ensures { IsTrue result → Contains (map (λ d. d.name) hierarchy.now.types) number }
+fn is_declared(lattice: &Lattice, number: u32) -> bool
+    ensures { IsTrue result → Contains (map (λ d. d.name) lattice.now) number }
 {
-    hierarchy.heads().binary_search(&number).is_ok()
+    lattice.heads().binary_search(&number).is_ok()
 }
 
 /// Whether a type is a declared one.
-fn is_typed(hierarchy: &Hierarchy, of: &Ty) -> bool
-    ensures { IsTrue result → DeclaredIn hierarchy.now.types (head_of (ty_of of.now)) }
+fn is_typed(lattice: &Lattice, of: &Ty) -> bool
+    ensures { IsTrue result → DeclaredIn lattice.now (head_of (ty_of of.now)) }
 {
     match of {
-        Ty::Named(head, _) => is_declared(hierarchy, *head),
+        Ty::Named(head, _) => is_declared(lattice, *head),
         _ => false,
     }
 }
@@ -100,16 +99,16 @@ fn is_first(places: &HashMap<u32, u32>, number: u32, k: usize) -> bool
 
 /// Whether the class at the place k is for a declared type, is the first of its number, and inherits none or one of lower rank.
 fn is_fit(
-    hierarchy: &Hierarchy,
+    lattice: &Lattice,
     places: &HashMap<u32, u32>,
     ranks: &[u32],
     k: usize,
     class: &ClassShape,
 ) -> bool
     requires { k < 2 ^ 32 }
-    ensures { (S : List Shape) → ((q : ℕ) → get nat_eq places.now q ≡ index_of q (names_of S)) → slice_get S k ≡ Some (shape_of class.now) → IsTrue result → FitAt hierarchy.now.types S ranks.now k }
+    ensures { (S : List Shape) → ((q : ℕ) → get nat_eq places.now q ≡ index_of q (names_of S)) → slice_get S k ≡ Some (shape_of class.now) → IsTrue result → FitAt lattice.now S ranks.now k }
 {
-    if !is_typed(hierarchy, &class.of) {
+    if !is_typed(lattice, &class.of) {
         return false;
     }
     if !is_first(places, class.name, k) {
@@ -120,17 +119,17 @@ fn is_fit(
 
 /// The same of all classes.
 fn all_fit(
-    hierarchy: &Hierarchy,
+    lattice: &Lattice,
     places: &HashMap<u32, u32>,
     ranks: &[u32],
     classes: &[ClassShape],
 ) -> bool
     requires few { length classes.now < 2 ^ 32 }
     requires places { (q : ℕ) → get nat_eq places.now q ≡ index_of q (names_of (shapes_of classes.now)) }
-    ensures { IsTrue result → (k : ℕ) → k < length classes.now → FitAt hierarchy.now.types (shapes_of classes.now) ranks.now k }
+    ensures { IsTrue result → (k : ℕ) → k < length classes.now → FitAt lattice.now (shapes_of classes.now) ranks.now k }
 {
     for k in 0..classes.len() {
-        if !is_fit(hierarchy, places, ranks, k, &classes[k]) {
+        if !is_fit(lattice, places, ranks, k, &classes[k]) {
             return false;
         }
     }
@@ -141,10 +140,10 @@ fn all_fit(
 /// none reaches itself. More classes than 2^32 - 1 are want of memory.
 pub fn are_fit(
     alloc: Global,
-    hierarchy: &Hierarchy,
+    lattice: &Lattice,
     classes: &[ClassShape],
 ) -> Result<bool, AllocError>
-    ensures { IfOk result (λ fit. IsTrue fit → AreFit hierarchy.now.types (shapes_of classes.now)) }
+    ensures { IfOk result (λ fit. IsTrue fit → AreFit lattice.now (shapes_of classes.now)) }
 {
     if classes.len() > u32::MAX as usize {
         return Err(AllocError);
@@ -153,5 +152,5 @@ pub fn are_fit(
     let places = first_places(alloc, &names)?;
     let ups = ups_of(alloc, &places, classes)?;
     let ranks = ranks_of(alloc, &ups)?;
-    Ok(all_fit(hierarchy, &places, &ranks, classes))
+    Ok(all_fit(lattice, &places, &ranks, classes))
 }

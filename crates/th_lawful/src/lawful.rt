@@ -10,25 +10,24 @@ ghost use Rattle.th_type.specs.Types.{ty_of};
 ghost use Rattle.th_views.specs.Shapes.{HasLines, IsTyped, names_of, shapes_of};
 
 use std::alloc::Global;
-use th_hier::Hierarchy;
 use th_layout::{Layout, LayoutError};
 use th_table::{Tables, tables};
-use th_type::Ty;
+use th_type::{Lattice, Ty};
 use th_views::ClassShape;
 
 /// Whether a number is that of a declared type.
-fn is_declared(hierarchy: &Hierarchy, number: u32) -> bool
-    ensures { IsTrue result → Contains (map (λ d. d.name) hierarchy.now.types) number }
+fn is_declared(lattice: &Lattice, number: u32) -> bool
+    ensures { IsTrue result → Contains (map (λ d. d.name) lattice.now) number }
 {
-    hierarchy.heads().binary_search(&number).is_ok()
+    lattice.heads().binary_search(&number).is_ok()
 }
 
 /// Whether a type is a declared one.
-fn is_typed(hierarchy: &Hierarchy, of: &Ty) -> bool
-    ensures { IsTrue result → DeclaredIn hierarchy.now.types (head_of (ty_of of.now)) }
+fn is_typed(lattice: &Lattice, of: &Ty) -> bool
+    ensures { IsTrue result → DeclaredIn lattice.now (head_of (ty_of of.now)) }
 {
     match of {
-        Ty::Named(head, _) => is_declared(hierarchy, *head),
+        Ty::Named(head, _) => is_declared(lattice, *head),
         _ => false,
     }
 }
@@ -71,12 +70,12 @@ fn inherits_earlier(classes: &[ClassShape], k: usize, inherits: &Option<Ty>) -> 
 }
 
 /// Whether a class is for a declared type, has a higher number than the class before, and inherits none or an earlier one.
-fn is_lawful(hierarchy: &Hierarchy, classes: &[ClassShape], k: usize) -> bool
+fn is_lawful(lattice: &Lattice, classes: &[ClassShape], k: usize) -> bool
     requires { k < length classes.now }
-    ensures { IsTrue result → LawfulAt hierarchy.now.types (shapes_of classes.now) k }
+    ensures { IsTrue result → LawfulAt lattice.now (shapes_of classes.now) k }
 {
     let class = &classes[k];
-    if !is_typed(hierarchy, &class.of) {
+    if !is_typed(lattice, &class.of) {
         return false;
     }
     if !rises(classes, k) {
@@ -87,13 +86,13 @@ fn is_lawful(hierarchy: &Hierarchy, classes: &[ClassShape], k: usize) -> bool
 
 /// Whether a layout can be made of the classes: each is for a declared type, their numbers ascend, and each inherits none or
 /// an earlier one.
-pub fn are_lawful(hierarchy: &Hierarchy, classes: &[ClassShape]) -> bool
+pub fn are_lawful(lattice: &Lattice, classes: &[ClassShape]) -> bool
     ensures lines { IsTrue result → HasLines (shapes_of classes.now) }
     ensures names { IsTrue result → Distinct (names_of (shapes_of classes.now)) }
-    ensures typed { IsTrue result → IsTyped hierarchy.now.types (shapes_of classes.now) }
+    ensures typed { IsTrue result → IsTyped lattice.now (shapes_of classes.now) }
 {
     for k in 0..classes.len() {
-        if !is_lawful(hierarchy, classes, k) {
+        if !is_lawful(lattice, classes, k) {
             return false;
         }
     }
@@ -103,18 +102,18 @@ pub fn are_lawful(hierarchy: &Hierarchy, classes: &[ClassShape]) -> bool
 /// The layout of classes, and their tables.
 pub fn laid_out(
     alloc: Global,
-    hierarchy: &Hierarchy,
+    lattice: &Lattice,
     classes: &[ClassShape],
     limit: u32,
 ) -> Result<(Layout, Tables), LayoutError>
     requires limit { limit ≤ 64 }
     requires lines { HasLines (shapes_of classes.now) }
     requires names { Distinct (names_of (shapes_of classes.now)) }
-    requires typed { IsTyped hierarchy.now.types (shapes_of classes.now) }
-    ensures program { IfOk result (λ r. IsProgramOf hierarchy.now.types (shapes_of classes.now) r.0) }
+    requires typed { IsTyped lattice.now (shapes_of classes.now) }
+    ensures program { IfOk result (λ r. IsProgramOf lattice.now (shapes_of classes.now) r.0) }
     ensures tables { IfOk result (λ r. IsTables r.0 (names_of (shapes_of classes.now)) r.1) }
 {
-    let layout = Layout::of(alloc, hierarchy, classes, limit)?;
+    let layout = Layout::of(alloc, lattice, classes, limit)?;
     let tables = tables(alloc, &layout, classes)?;
     Ok((layout, tables))
 }

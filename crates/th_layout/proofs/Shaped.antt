@@ -1,4 +1,4 @@
--- A layout of rows is one of the hierarchy and the classes whose rows they are.
+-- A layout of rows is one of the lattice and the classes whose rows they are.
 use Rattle.std.proofs.Common.{◌≡◌, ℕ, ◌<◌, List, refl, sym, subst, Option, Some, None}
 use Rattle.std.specs.Prelude.{slice_get, Result, Ok, Err, MatchResult}
 use Rattle.th_type.specs.Declarations.{DeclaredType}

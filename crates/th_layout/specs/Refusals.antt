@@ -21,7 +21,7 @@ RefusedBy limit p (TooManySlots n) = (least_above limit (word_counts p) ≡ None
 RefusedBy limit p (TooManyFields n) = (least_above limit (word_counts p) ≡ None) × (least_above 250 (slot_counts p) ≡ None) × (least_above 400 (field_counts p) ≡ Some n)
 RefusedBy limit p Memory = Unit {0}
 
--- the refusal of the types of a hierarchy and of classes: that of a program with a row for each
+-- the refusal of the types of a lattice and of classes: that of a program with a row for each
 abbrev pub RefusedFor : ℕ → List DeclaredType → List Shape → LayoutError → Type 0
 RefusedFor limit D S (TooManyWords n) = (p : Program) × IsProgramOf D S p × RefusedBy limit p (TooManyWords n)
 RefusedFor limit D S (TooManySlots n) = (p : Program) × IsProgramOf D S p × RefusedBy limit p (TooManySlots n)

@@ -23,8 +23,8 @@ use crate::sides::{
 use crate::tables::{bridge_of, class_bridge, table_at};
 use std::alloc::{AllocError, Global};
 use std::marker::Model;
-use th_hier::Hierarchy;
 use th_shape::rows_of;
+use th_type::Lattice;
 use th_views::{ClassRow, ClassShape, Slot, TypeRow};
 
 /// What a class's objects hold: their header words, and their where-words and fields with those that the class inherits.
@@ -59,22 +59,22 @@ impl Model for Layout {
 }
 
 impl Layout {
-    /// The layout of the types of a hierarchy and of these classes, or the first limit above which a count of theirs is, and the
+    /// The layout of the types of a lattice and of these classes, or the first limit above which a count of theirs is, and the
     /// least number of a type or class with such a count. More types or classes than 2^32 - 1 are want of memory.
     pub fn of(
         alloc: Global,
-        hierarchy: &Hierarchy,
+        lattice: &Lattice,
         classes: &[ClassShape],
         limit: u32,
     ) -> Result<Layout, LayoutError>
         requires limit { limit ≤ 64 }
         requires lines { HasLines (shapes_of classes.now) }
         requires names { Distinct (names_of (shapes_of classes.now)) }
-        requires typed { IsTyped hierarchy.now.types (shapes_of classes.now) }
-        ensures { MatchResult result (λ l. IsProgramOf hierarchy.now.types (shapes_of classes.now) l × Accepted limit l)
-            (λ e. RefusedFor limit hierarchy.now.types (shapes_of classes.now) e) }
+        requires typed { IsTyped lattice.now (shapes_of classes.now) }
+        ensures { MatchResult result (λ l. IsProgramOf lattice.now (shapes_of classes.now) l × Accepted limit l)
+            (λ e. RefusedFor limit lattice.now (shapes_of classes.now) e) }
     {
-        let rows = rows_of(alloc, hierarchy, classes)?;
+        let rows = rows_of(alloc, lattice, classes)?;
         Layout::of_rows(alloc, rows.types, rows.classes, limit)
     }
 
@@ -109,6 +109,20 @@ impl Layout {
             type_side,
             class_side,
         })
+    }
+
+    /// The rows of the types, each after its supertypes.
+    pub fn types(&self) -> &[TypeRow]
+        ensures { result.now ≡ self.now.types }
+    {
+        &self.types
+    }
+
+    /// The rows of the classes, each after the class that it inherits.
+    pub fn classes(&self) -> &[ClassRow]
+        ensures { result.now ≡ self.now.classes }
+    {
+        &self.classes
     }
 
     /// The place of the type with a number.

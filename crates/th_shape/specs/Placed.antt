@@ -1,4 +1,4 @@
--- The rows of the declared types of a hierarchy and of classes: what is named stands at its place in the list.
+-- The rows of the declared types of a lattice and of classes: what is named stands at its place in the list.
 use Rattle.std.specs.Prelude.{◌≡◌, ◌↔◌, ℕ, ◌<◌, List, [], ◌∷◌, map, length, slice_get, IsTrue, Option, Some, None, option_map, option_and_then}
 use Rattle.std.specs.List.{Contains}
 use Rattle.std.specs.List.Sorted.{IsPermutation}
@@ -68,7 +68,7 @@ pub record ClassRows (D : List DeclaredType) (types : List ℕ) (S : List Shape)
   pub before : (k j : ℕ) (r : ClassRow) → slice_get rows k ≡ Some r → r.inherits ≡ Some j → j < k
   pub of : (k : ℕ) (r : ClassRow) → slice_get rows k ≡ Some r → r.of < length types
 
--- the program has a row for each declared type of the hierarchy and for each class, and no others; what a row names stands before it
+-- the program has a row for each declared type of the lattice and for each class, and no others; what a row names stands before it
 pub record IsProgramOf (D : List DeclaredType) (S : List Shape) (p : Program) : Type 0 where
   pub types : IsPermutation (map (λ d. d.name) D) (type_numbers p.types)
   pub each_type : (k : ℕ) (r : TypeRow) → slice_get p.types k ≡ Some r → IsTypeRow D (type_numbers p.types) r

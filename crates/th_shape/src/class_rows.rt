@@ -18,8 +18,7 @@ use crate::places::place_of;
 use crate::results::Results;
 use std::alloc::{AllocError, Global};
 use std::collections::HashMap;
-use th_hier::Hierarchy;
-use th_type::{NumberList, Ty, TyList};
+use th_type::{Lattice, NumberList, Ty, TyList};
 use th_views::{ClassRow, ClassShape, GivesList};
 
 /// What the results of a class's methods name: by its signatures that are not hidden methods', and where the bodies that the
@@ -52,17 +51,17 @@ fn add_carried(results: &mut Results, shape: &ClassShape, from: &Results) -> Res
 
 fn sigs_of(
     alloc: Global,
-    hierarchy: &Hierarchy,
+    lattice: &Lattice,
     shape: &ClassShape,
     done: &[ClassResults],
     up: Option<u32>,
 ) -> Result<Results, AllocError>
     requires { ForSome up (λ j. j < length done.now) }
-    ensures { IfOk result (λ r. (above : List Shape) → UpResults hierarchy.now.types done.now up above
-        → (q : ℕ) → kinds r q ≡ option_map result_kind (sig_result hierarchy.now.types (shape_of shape.now ∷ above) q)) }
+    ensures { IfOk result (λ r. (above : List Shape) → UpResults lattice.now done.now up above
+        → (q : ℕ) → kinds r q ≡ option_map result_kind (sig_result lattice.now (shape_of shape.now ∷ above) q)) }
 {
     let mut sigs = Results::new(alloc);
-    sigs.add_type(hierarchy, &shape.of)?;
+    sigs.add_type(lattice, &shape.of)?;
     match up {
         Some(place) => {
             add_carried(&mut sigs, shape, &done[place as usize].sigs)?;
@@ -107,15 +106,15 @@ fn arrivals_of(
 /// What the results of a class's methods name, where those of the class that it inherits stand at a place before.
 pub fn class_results(
     alloc: Global,
-    hierarchy: &Hierarchy,
+    lattice: &Lattice,
     shape: &ClassShape,
     done: &[ClassResults],
     up: Option<u32>,
 ) -> Result<ClassResults, AllocError>
     requires { ForSome up (λ j. j < length done.now) }
-    ensures { IfOk result (λ r. (above : List Shape) → UpResults hierarchy.now.types done.now up above → HasResults hierarchy.now.types (shape_of shape.now ∷ above) r) }
+    ensures { IfOk result (λ r. (above : List Shape) → UpResults lattice.now done.now up above → HasResults lattice.now (shape_of shape.now ∷ above) r) }
 {
-    let sigs = sigs_of(alloc, hierarchy, shape, done, up)?;
+    let sigs = sigs_of(alloc, lattice, shape, done, up)?;
     let arrivals = arrivals_of(alloc, shape, &sigs, done, up)?;
     Ok(ClassResults { sigs, arrivals })
 }
@@ -123,29 +122,29 @@ pub fn class_results(
 /// Whether a class extends the group of the class at a place, with the arguments at which it inherits.
 fn extends(
     alloc: Global,
-    hierarchy: &Hierarchy,
+    lattice: &Lattice,
     types: &[u32],
     places: &HashMap<u32, u32>,
     shape: &ClassShape,
     base: &ClassShape,
 ) -> Result<bool, AllocError>
-    requires order { SupersFirst hierarchy.now.types types.now }
-    requires all { IsPermutation (map (λ d. d.name) hierarchy.now.types) types.now }
+    requires order { SupersFirst lattice.now types.now }
+    requires all { IsPermutation (map (λ d. d.name) lattice.now) types.now }
     requires places { (q : ℕ) → get nat_eq places.now q ≡ index_of q types.now }
     requires inherits { IsSome (shape_of shape.now).inherits }
-    ensures { IfOk result (λ r. IsTrue r ↔ ExtendsBase hierarchy.now.types (shape_of shape.now) (Some (shape_of base.now))) }
+    ensures { IfOk result (λ r. IsTrue r ↔ ExtendsBase lattice.now (shape_of shape.now) (Some (shape_of base.now))) }
 {
     let of = match &shape.inherits {
         Some(Ty::Named(_, args)) => base.of.apply(alloc, args)?,
         _ => base.of.apply(alloc, &TyList::NoTy)?,
     };
-    is_on_chain(alloc, hierarchy, types, places, &shape.of, &of)
+    is_on_chain(alloc, lattice, types, places, &shape.of, &of)
 }
 
 /// Whether a class extends the group of the class that it inherits.
 fn extends_up(
     alloc: Global,
-    hierarchy: &Hierarchy,
+    lattice: &Lattice,
     types: &[u32],
     places: &HashMap<u32, u32>,
     classes: &[ClassShape],
@@ -153,17 +152,17 @@ fn extends_up(
     shape: &ClassShape,
     up: Option<u32>,
 ) -> Result<bool, AllocError>
-    requires order { SupersFirst hierarchy.now.types types.now }
-    requires all { IsPermutation (map (λ d. d.name) hierarchy.now.types) types.now }
+    requires order { SupersFirst lattice.now types.now }
+    requires all { IsPermutation (map (λ d. d.name) lattice.now) types.now }
     requires places { (q : ℕ) → get nat_eq places.now q ≡ index_of q types.now }
     requires up { ForSome up (λ j. (j < length order.now) × IsSome (shape_of shape.now).inherits) }
     requires within { (k : ℕ) → k < length order.now → get_or order.now k 0 < length classes.now }
-    ensures { IfOk result (λ r. IsTrue r ↔ ExtendsBase hierarchy.now.types (shape_of shape.now) (base_at (shapes_of classes.now) order.now up)) }
+    ensures { IfOk result (λ r. IsTrue r ↔ ExtendsBase lattice.now (shape_of shape.now) (base_at (shapes_of classes.now) order.now up)) }
 {
     match up {
         Some(place) => extends(
             alloc,
-            hierarchy,
+            lattice,
             types,
             places,
             shape,
@@ -176,7 +175,7 @@ fn extends_up(
 /// The row of a class.
 pub fn class_row(
     alloc: Global,
-    hierarchy: &Hierarchy,
+    lattice: &Lattice,
     types: &[u32],
     places: &HashMap<u32, u32>,
     class_places: &HashMap<u32, u32>,
@@ -185,18 +184,18 @@ pub fn class_row(
     shape: &ClassShape,
     results: &ClassResults,
 ) -> Result<ClassRow, AllocError>
-    requires order { SupersFirst hierarchy.now.types types.now }
-    requires all { IsPermutation (map (λ d. d.name) hierarchy.now.types) types.now }
+    requires order { SupersFirst lattice.now types.now }
+    requires all { IsPermutation (map (λ d. d.name) lattice.now) types.now }
     requires places { (q : ℕ) → get nat_eq places.now q ≡ index_of q types.now }
     requires typed { IsSome (place_by (get nat_eq places.now) (shape_of shape.now).of) }
     requires up { ForSome (option_and_then (place_by (get nat_eq class_places.now)) (shape_of shape.now).inherits) (λ j. j < length order.now) }
     requires within { (k : ℕ) → k < length order.now → get_or order.now k 0 < length classes.now }
-    ensures { IfOk result (λ r. ClassBuilt hierarchy.now.types (get nat_eq places.now) (get nat_eq class_places.now) (shape_of shape.now)
+    ensures { IfOk result (λ r. ClassBuilt lattice.now (get nat_eq places.now) (get nat_eq class_places.now) (shape_of shape.now)
         (base_at (shapes_of classes.now) order.now (option_and_then (place_by (get nat_eq class_places.now)) (shape_of shape.now).inherits)) results.now r) }
 {
     let inherits = base_place(class_places, shape);
     let extends = extends_up(
-        alloc, hierarchy, types, places, classes, order, shape, inherits,
+        alloc, lattice, types, places, classes, order, shape, inherits,
     )?;
     let of = type_place(places, shape);
     let gives = results.sigs.gives(alloc, places)?;

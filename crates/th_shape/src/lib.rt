@@ -1,4 +1,4 @@
-//! The declared types of a hierarchy and a program's classes as rows, in which each names others by
+//! The declared types of a lattice and a program's classes as rows, in which each names others by
 //! their places: what a layout is made from. docs/LAYOUT.md says what a layout takes of them.
 #![tactic(auto)]
 

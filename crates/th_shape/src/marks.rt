@@ -8,8 +8,7 @@ ghost use Rattle.th_type.specs.Types.{ty_of};
 use crate::places::head_of;
 use std::alloc::{AllocError, Global};
 use std::collections::HashMap;
-use th_hier::Hierarchy;
-use th_type::Ty;
+use th_type::{Lattice, Ty};
 
 /// Notes that a type is named once more, as a second or not.
 fn note(named: &mut HashMap<u32, bool>, name: u32, second: bool) -> Result<(), AllocError>
@@ -49,14 +48,14 @@ fn note_list(named: &mut HashMap<u32, bool>, supers: &[Ty]) -> Result<(), AllocE
 /// For each type that a list of supertypes names, whether it is only named as a second.
 pub fn seconds(
     alloc: Global,
-    hierarchy: &Hierarchy,
+    lattice: &Lattice,
     types: &[u32],
 ) -> Result<HashMap<u32, bool>, AllocError>
-    ensures { IfOk result (λ m. (q : ℕ) → get nat_eq m q ≡ noted_all hierarchy.now.types types.now q None) }
+    ensures { IfOk result (λ m. (q : ℕ) → get nat_eq m q ≡ noted_all lattice.now types.now q None) }
 {
     let mut named = HashMap::new(alloc);
     for name in types {
-        note_list(&mut named, hierarchy.supertypes_of(*name))?;
+        note_list(&mut named, lattice.supertypes_of(*name))?;
     }
     Ok(named)
 }

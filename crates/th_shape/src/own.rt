@@ -10,15 +10,14 @@ ghost use Rattle.th_type.specs.Types.{ty_of, tys_of, list_of};
 
 use crate::results::result;
 use std::alloc::{AllocError, Global};
-use th_hier::Hierarchy;
-use th_type::{Sig, Ty, TyList};
+use th_type::{Lattice, Sig, Ty, TyList};
 
 /// Whether a type has a method.
-fn has_method(hierarchy: &Hierarchy, ty: &Ty, method: u32) -> bool
-    ensures { result ≡ is_some (method_at hierarchy.now.types (ty_of ty.now) method) }
+fn has_method(lattice: &Lattice, ty: &Ty, method: u32) -> bool
+    ensures { result ≡ is_some (method_at lattice.now (ty_of ty.now) method) }
 {
     match ty {
-        Ty::Named(name, _) => hierarchy.method_of(*name, method).is_some(),
+        Ty::Named(name, _) => lattice.method_of(*name, method).is_some(),
         _ => false,
     }
 }
@@ -35,24 +34,24 @@ fn gives_same(inherited: &Sig, args: &TyList, sig: &Sig) -> bool
 }
 
 /// Whether a supertype has the signature's method with another result.
-fn is_other(hierarchy: &Hierarchy, ty: &Ty, sig: &Sig) -> bool
-    ensures { result ≡ is_other (sig_of sig.now) (method_at hierarchy.now.types (ty_of ty.now) sig.now.method) }
+fn is_other(lattice: &Lattice, ty: &Ty, sig: &Sig) -> bool
+    ensures { result ≡ is_other (sig_of sig.now) (method_at lattice.now (ty_of ty.now) sig.now.method) }
 {
     let Ty::Named(name, args) = ty else {
         return false;
     };
-    match hierarchy.method_of(*name, sig.method) {
+    match lattice.method_of(*name, sig.method) {
         Some(inherited) => !gives_same(inherited, args, sig),
         None => false,
     }
 }
 
 /// Whether a method is in one of the types.
-fn is_inherited(hierarchy: &Hierarchy, supers: &[Ty], method: u32) -> bool
-    ensures { result ≡ list_any (λ t. is_some (method_at hierarchy.now.types t method)) (map ty_of supers.now) }
+fn is_inherited(lattice: &Lattice, supers: &[Ty], method: u32) -> bool
+    ensures { result ≡ list_any (λ t. is_some (method_at lattice.now t method)) (map ty_of supers.now) }
 {
     for ty in supers {
-        if has_method(hierarchy, ty, method) {
+        if has_method(lattice, ty, method) {
             return true;
         }
     }
@@ -60,11 +59,11 @@ fn is_inherited(hierarchy: &Hierarchy, supers: &[Ty], method: u32) -> bool
 }
 
 /// Whether one of the types has the signature's method with another result.
-fn is_changed(hierarchy: &Hierarchy, supers: &[Ty], sig: &Sig) -> bool
-    ensures { result ≡ list_any (λ t. is_other (sig_of sig.now) (method_at hierarchy.now.types t sig.now.method)) (map ty_of supers.now) }
+fn is_changed(lattice: &Lattice, supers: &[Ty], sig: &Sig) -> bool
+    ensures { result ≡ list_any (λ t. is_other (sig_of sig.now) (method_at lattice.now t sig.now.method)) (map ty_of supers.now) }
 {
     for ty in supers {
-        if is_other(hierarchy, ty, sig) {
+        if is_other(lattice, ty, sig) {
             return true;
         }
     }
@@ -72,22 +71,22 @@ fn is_changed(hierarchy: &Hierarchy, supers: &[Ty], sig: &Sig) -> bool
 }
 
 /// Whether a written method is the type's own.
-fn is_own(hierarchy: &Hierarchy, supers: &[Ty], sig: &Sig) -> bool
-    ensures { result ≡ is_own hierarchy.now.types (map ty_of supers.now) (sig_of sig.now) }
+fn is_own(lattice: &Lattice, supers: &[Ty], sig: &Sig) -> bool
+    ensures { result ≡ is_own lattice.now (map ty_of supers.now) (sig_of sig.now) }
 {
-    !is_inherited(hierarchy, supers, sig.method) || is_changed(hierarchy, supers, sig)
+    !is_inherited(lattice, supers, sig.method) || is_changed(lattice, supers, sig)
 }
 
 /// Adds a written method, where it is the type's own.
 fn push_own(
     own: &mut Vec<u32>,
-    hierarchy: &Hierarchy,
+    lattice: &Lattice,
     supers: &[Ty],
     sig: &Sig,
 ) -> Result<(), AllocError>
-    ensures { OnOk result (own.new.items ≡ own.old.items ++ map (λ s. s.method) (filter (is_own hierarchy.now.types (map ty_of supers.now)) (sig_of sig.now ∷ []))) }
+    ensures { OnOk result (own.new.items ≡ own.old.items ++ map (λ s. s.method) (filter (is_own lattice.now (map ty_of supers.now)) (sig_of sig.now ∷ []))) }
 {
-    if is_own(hierarchy, supers, sig) {
+    if is_own(lattice, supers, sig) {
         own.push(sig.method)?;
         return Ok(());
     }
@@ -96,27 +95,27 @@ fn push_own(
 
 fn own_among(
     alloc: Global,
-    hierarchy: &Hierarchy,
+    lattice: &Lattice,
     supers: &[Ty],
     sigs: &[Sig],
 ) -> Result<Vec<u32>, AllocError>
-    ensures { IfOk result (λ v. v.items ≡ map (λ s. s.method) (filter (is_own hierarchy.now.types (map ty_of supers.now)) (map sig_of sigs.now))) }
+    ensures { IfOk result (λ v. v.items ≡ map (λ s. s.method) (filter (is_own lattice.now (map ty_of supers.now)) (map sig_of sigs.now))) }
 {
     let mut own = Vec::new(alloc);
     for sig in sigs {
-        push_own(&mut own, hierarchy, supers, sig)?;
+        push_own(&mut own, lattice, supers, sig)?;
     }
     Ok(own)
 }
 
 /// The own methods of a declared type.
-pub fn own_methods(alloc: Global, hierarchy: &Hierarchy, head: u32) -> Result<Vec<u32>, AllocError>
-    ensures { IfOk result (λ v. v.items ≡ own_methods hierarchy.now.types head) }
+pub fn own_methods(alloc: Global, lattice: &Lattice, head: u32) -> Result<Vec<u32>, AllocError>
+    ensures { IfOk result (λ v. v.items ≡ own_methods lattice.now head) }
 {
     own_among(
         alloc,
-        hierarchy,
-        hierarchy.supertypes_of(head),
-        hierarchy.written_in(head),
+        lattice,
+        lattice.supertypes_of(head),
+        lattice.written_in(head),
     )
 }

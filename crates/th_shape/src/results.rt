@@ -13,8 +13,7 @@ ghost use Rattle.th_views.specs.Lookups.{given_in};
 use indexmap::IndexMap;
 use std::alloc::{AllocError, Global};
 use std::collections::HashMap;
-use th_hier::Hierarchy;
-use th_type::{Sig, Ty, TyList};
+use th_type::{Lattice, Sig, Ty, TyList};
 use th_views::Gives;
 
 /// What a result names: a declared type, a type parameter, or neither.
@@ -157,14 +156,14 @@ impl Results {
     }
 
     /// Adds the methods of a type that are not there, with what their results name.
-    pub fn add_type(&mut self, hierarchy: &Hierarchy, ty: &Ty) -> Result<(), AllocError>
+    pub fn add_type(&mut self, lattice: &Lattice, ty: &Ty) -> Result<(), AllocError>
         ensures { OnOk result ((q : ℕ) → lookup (nat_eq q) self.new.of.entries
-            ≡ or_else (lookup (nat_eq q) self.old.of.entries) (option_map result_kind (type_result hierarchy.now.types (ty_of ty.now) q))) }
+            ≡ or_else (lookup (nat_eq q) self.old.of.entries) (option_map result_kind (type_result lattice.now (ty_of ty.now) q))) }
     {
         let Ty::Named(name, args) = ty else {
             return Ok(());
         };
-        self.add_sigs(hierarchy.methods_of(*name), args)?;
+        self.add_sigs(lattice.methods_of(*name), args)?;
         Ok(())
     }
 

@@ -17,7 +17,7 @@ use crate::places::first_places;
 use crate::type_rows::type_rows;
 use std::alloc::{AllocError, Global};
 use std::collections::HashMap;
-use th_hier::Hierarchy;
+use th_type::Lattice;
 use th_views::{ClassRow, ClassShape, TypeRow};
 
 /// The numbers of the classes.
@@ -90,25 +90,25 @@ fn ordered_names(
 /// The rows of the classes, in this order.
 fn rows_in(
     alloc: Global,
-    hierarchy: &Hierarchy,
+    lattice: &Lattice,
     types: &[u32],
     places: &HashMap<u32, u32>,
     classes: &[ClassShape],
     order: &[u32],
     class_places: &HashMap<u32, u32>,
 ) -> Result<Vec<ClassRow>, AllocError>
-    requires { Ready hierarchy.now.types types.now (get nat_eq places.now) (shapes_of classes.now) order.now (get nat_eq class_places.now) }
-    ensures { IfOk result (λ rows. ClassesBuilt hierarchy.now.types (get nat_eq places.now) (get nat_eq class_places.now) (shapes_of classes.now) order.now rows.items) }
+    requires { Ready lattice.now types.now (get nat_eq places.now) (shapes_of classes.now) order.now (get nat_eq class_places.now) }
+    ensures { IfOk result (λ rows. ClassesBuilt lattice.now (get nat_eq places.now) (get nat_eq class_places.now) (shapes_of classes.now) order.now rows.items) }
 {
     let mut rows = Vec::new(alloc);
     let mut done: Vec<ClassResults> = Vec::new(alloc);
     for k in 0..order.len() {
         let shape = shape_at(classes, order, k);
         let up = base_place(class_places, shape);
-        let results = class_results(alloc, hierarchy, shape, &done, up)?;
+        let results = class_results(alloc, lattice, shape, &done, up)?;
         let row = class_row(
             alloc,
-            hierarchy,
+            lattice,
             types,
             places,
             class_places,
@@ -132,26 +132,26 @@ pub struct ProgramRows {
 
 fn class_rows(
     alloc: Global,
-    hierarchy: &Hierarchy,
+    lattice: &Lattice,
     types: &[u32],
     places: &HashMap<u32, u32>,
     classes: &[ClassShape],
 ) -> Result<Vec<ClassRow>, AllocError>
     requires few { length classes.now < 2 ^ 32 }
-    requires order { SupersFirst hierarchy.now.types types.now }
-    requires all { IsPermutation (map (λ d. d.name) hierarchy.now.types) types.now }
+    requires order { SupersFirst lattice.now types.now }
+    requires all { IsPermutation (map (λ d. d.name) lattice.now) types.now }
     requires places { (q : ℕ) → get nat_eq places.now q ≡ index_of q types.now }
     requires lines { HasLines (shapes_of classes.now) }
     requires names { Distinct (names_of (shapes_of classes.now)) }
-    requires typed { IsTyped hierarchy.now.types (shapes_of classes.now) }
-    ensures { IfOk result (λ rows. ClassRows hierarchy.now.types types.now (shapes_of classes.now) rows.items) }
+    requires typed { IsTyped lattice.now (shapes_of classes.now) }
+    ensures { IfOk result (λ rows. ClassRows lattice.now types.now (shapes_of classes.now) rows.items) }
 {
     let order = class_order(alloc, classes)?;
     let names = ordered_names(alloc, classes, &order)?;
     let class_places = first_places(alloc, &names)?;
     let rows = rows_in(
         alloc,
-        hierarchy,
+        lattice,
         types,
         places,
         classes,
@@ -161,26 +161,26 @@ fn class_rows(
     Ok(rows)
 }
 
-/// The rows of the declared types of a hierarchy and of classes. More types or classes than 2^32 - 1 are want of memory.
+/// The rows of the declared types of a lattice and of classes. More types or classes than 2^32 - 1 are want of memory.
 pub fn rows_of(
     alloc: Global,
-    hierarchy: &Hierarchy,
+    lattice: &Lattice,
     classes: &[ClassShape],
 ) -> Result<ProgramRows, AllocError>
     requires lines { HasLines (shapes_of classes.now) }
     requires names { Distinct (names_of (shapes_of classes.now)) }
-    requires typed { IsTyped hierarchy.now.types (shapes_of classes.now) }
-    ensures program { IfOk result (λ r. IsProgramOf hierarchy.now.types (shapes_of classes.now) (record { types = r.types.items; classes = r.classes.items })) }
+    requires typed { IsTyped lattice.now (shapes_of classes.now) }
+    ensures program { IfOk result (λ r. IsProgramOf lattice.now (shapes_of classes.now) (record { types = r.types.items; classes = r.classes.items })) }
     ensures typed { IfOk result (λ r. (k : ℕ) (c : ClassRow) → slice_get r.classes.items k ≡ Some c → c.of < length r.types.items) }
     ensures few_types { IfOk result (λ r. length r.types.items < 2 ^ 32) }
     ensures few_classes { IfOk result (λ r. length r.classes.items < 2 ^ 32) }
 {
-    let order = hierarchy.supers_first(alloc)?;
+    let order = lattice.supers_first(alloc)?;
     if order.len() > u32::MAX as usize || classes.len() > u32::MAX as usize {
         return Err(AllocError);
     }
     let places = first_places(alloc, &order)?;
-    let types = type_rows(alloc, hierarchy, &order, &places)?;
-    let classes = class_rows(alloc, hierarchy, &order, &places, classes)?;
+    let types = type_rows(alloc, lattice, &order, &places)?;
+    let classes = class_rows(alloc, lattice, &order, &places, classes)?;
     Ok(ProgramRows { types, classes })
 }

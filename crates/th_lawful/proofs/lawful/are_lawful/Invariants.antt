@@ -4,4 +4,4 @@ use Rattle.th_lawful.specs.Lawful.{LawfulAt}
 use Rattle.th_lawful.proofs.lawful.are_lawful.Given as goal
 
 abbrev pub invariant-loop-k : goal.invariant-loop-k
-invariant-loop-k l = (n : ℕ) → n < l.k → LawfulAt l.hierarchy.types (shapes_of l.classes) n
+invariant-loop-k l = (n : ℕ) → n < l.k → LawfulAt l.lattice (shapes_of l.classes) n

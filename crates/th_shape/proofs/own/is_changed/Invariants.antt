@@ -7,5 +7,5 @@ use Rattle.th_shape.specs.Own.{is_other}
 use Rattle.th_shape.proofs.own.is_changed.Given as goal
 
 abbrev pub invariant-loop-ty : goal.invariant-loop-ty
-invariant-loop-ty l = list_any (λ t. is_other (sig_of l.sig) (method_at l.hierarchy.types t l.sig.method)) (map ty_of (drop l.ty-index l.supers))
-    ≡ list_any (λ t. is_other (sig_of l.sig) (method_at l.hierarchy.types t l.sig.method)) (map ty_of l.supers)
+invariant-loop-ty l = list_any (λ t. is_other (sig_of l.sig) (method_at l.lattice t l.sig.method)) (map ty_of (drop l.ty-index l.supers))
+    ≡ list_any (λ t. is_other (sig_of l.sig) (method_at l.lattice t l.sig.method)) (map ty_of l.supers)

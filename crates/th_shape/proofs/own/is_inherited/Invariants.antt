@@ -6,4 +6,4 @@ use Rattle.th_type.specs.Methods.{method_at}
 use Rattle.th_shape.proofs.own.is_inherited.Given as goal
 
 abbrev pub invariant-loop-ty : goal.invariant-loop-ty
-invariant-loop-ty l = list_any (λ t. is_some (method_at l.hierarchy.types t l.method)) (map ty_of (drop l.ty-index l.supers)) ≡ list_any (λ t. is_some (method_at l.hierarchy.types t l.method)) (map ty_of l.supers)
+invariant-loop-ty l = list_any (λ t. is_some (method_at l.lattice t l.method)) (map ty_of (drop l.ty-index l.supers)) ≡ list_any (λ t. is_some (method_at l.lattice t l.method)) (map ty_of l.supers)

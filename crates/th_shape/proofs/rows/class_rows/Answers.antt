@@ -13,11 +13,11 @@ pub first_places-requires : goal.first_places-requires
 first_places-requires c = few_order c.args.classes.now c.in_ok-order.order.items c.deref.result.now c.deref-2.result.now c.deref.ensures.value c.in_ok-order.ensures (c.deref-2.ensures.value ∙ c.in_ok-names.ensures) c.requires.few
 
 pub rows_in-requires : goal.rows_in-requires
-rows_in-requires c = (ready_by c.args.hierarchy.now.types c.args.types.now (get nat_eq c.args.places.now) (shapes_of c.args.classes.now) c.in_ok-order.order.items c.deref.result.now c.deref-3.result.now c.in_ok-names.names.items c.deref-2.result.now (get nat_eq c.in_ok-class_places.class_places)
+rows_in-requires c = (ready_by c.args.lattice.now c.args.types.now (get nat_eq c.args.places.now) (shapes_of c.args.classes.now) c.in_ok-order.order.items c.deref.result.now c.deref-3.result.now c.in_ok-names.names.items c.deref-2.result.now (get nat_eq c.in_ok-class_places.class_places)
     c.requires.order c.requires.all c.requires.places c.requires.typed c.requires.names c.in_ok-order.ensures c.deref.ensures.value c.in_ok-names.ensures c.deref-2.ensures.value c.in_ok-class_places.ensures c.deref-3.ensures.value)
 
 pub returns : goal.returns
-returns c = class_rows_made c.args.hierarchy.now.types c.args.types.now (get nat_eq c.args.places.now) (shapes_of c.args.classes.now) c.deref-3.result.now (get nat_eq c.in_ok-class_places.class_places)
-    (ready_by c.args.hierarchy.now.types c.args.types.now (get nat_eq c.args.places.now) (shapes_of c.args.classes.now) c.in_ok-order.order.items c.deref.result.now c.deref-3.result.now c.in_ok-names.names.items c.deref-2.result.now (get nat_eq c.in_ok-class_places.class_places)
+returns c = class_rows_made c.args.lattice.now c.args.types.now (get nat_eq c.args.places.now) (shapes_of c.args.classes.now) c.deref-3.result.now (get nat_eq c.in_ok-class_places.class_places)
+    (ready_by c.args.lattice.now c.args.types.now (get nat_eq c.args.places.now) (shapes_of c.args.classes.now) c.in_ok-order.order.items c.deref.result.now c.deref-3.result.now c.in_ok-names.names.items c.deref-2.result.now (get nat_eq c.in_ok-class_places.class_places)
     c.requires.order c.requires.all c.requires.places c.requires.typed c.requires.names c.in_ok-order.ensures c.deref.ensures.value c.in_ok-names.ensures c.deref-2.ensures.value c.in_ok-class_places.ensures c.deref-3.ensures.value)
     c.requires.lines c.in_ok-rows.rows.items c.in_ok-rows.ensures

@@ -9,6 +9,6 @@ abbrev pub invariant-loop-k : goal.invariant-loop-k
 invariant-loop-k l = record {
   many : length l.done.items ≡ l.k;
   rows_many : length l.rows.items ≡ l.k;
-  done : AllDone l.hierarchy.types (shapes_of l.classes) l.order l.done.items;
-  rows : RowsSoFar l.hierarchy.types (get nat_eq l.places) (get nat_eq l.class_places) (shapes_of l.classes) l.order l.rows.items;
+  done : AllDone l.lattice (shapes_of l.classes) l.order l.done.items;
+  rows : RowsSoFar l.lattice (get nat_eq l.places) (get nat_eq l.class_places) (shapes_of l.classes) l.order l.rows.items;
 }

@@ -5,4 +5,4 @@ use Rattle.th_shape.specs.Built.{TypesBuilt}
 use Rattle.th_shape.proofs.type_rows.rows_with.Given as goal
 
 abbrev pub invariant-loop-name : goal.invariant-loop-name
-invariant-loop-name l = TypesBuilt l.hierarchy.types (get nat_eq l.places) (get nat_eq l.seconds) (take l.name-index l.order) l.rows.items
+invariant-loop-name l = TypesBuilt l.lattice (get nat_eq l.places) (get nat_eq l.seconds) (take l.name-index l.order) l.rows.items

@@ -5,4 +5,4 @@ use Rattle.th_shape.proofs.Featured.{types_by}
 use Rattle.th_shape.proofs.type_rows.type_rows.Goals as goal
 
 pub returns : goal.returns
-returns c = types_by c.args.hierarchy.now.types (get nat_eq c.args.places.now) (get nat_eq c.in_ok-seconds.seconds) (λ q. noted_all c.args.hierarchy.now.types c.args.order.now q None) c.args.order.now c.rows_with.result c.in_ok-seconds.ensures c.rows_with.ensures
+returns c = types_by c.args.lattice.now (get nat_eq c.args.places.now) (get nat_eq c.in_ok-seconds.seconds) (λ q. noted_all c.args.lattice.now c.args.order.now q None) c.args.order.now c.rows_with.result c.in_ok-seconds.ensures c.rows_with.ensures

@@ -10,4 +10,4 @@ pub of_rows-requires-clause-typed : goal.of_rows-requires-clause-typed
 of_rows-requires-clause-typed c = typed_by (record { types = c.in_ok-rows.rows.types.items; classes = c.in_ok-rows.rows.classes.items }) (length c.in_ok-rows.rows.types.items) c.in_ok-rows.ensures.typed
 
 pub returns : goal.returns
-returns c = shaped c.args.limit c.args.hierarchy.now.types (shapes_of c.args.classes.now) (record { types = c.in_ok-rows.rows.types.items; classes = c.in_ok-rows.rows.classes.items }) c.of_rows.result c.in_ok-rows.ensures.program c.of_rows.ensures
+returns c = shaped c.args.limit c.args.lattice.now (shapes_of c.args.classes.now) (record { types = c.in_ok-rows.rows.types.items; classes = c.in_ok-rows.rows.classes.items }) c.of_rows.result c.in_ok-rows.ensures.program c.of_rows.ensures

@@ -1,0 +1,6 @@
+//! The lattice of declared types that nobody has judged before.
+#![tactic(auto)]
+
+mod fitting;
+
+pub use fitting::fitting_lattice;

@@ -1,0 +1,11 @@
+//! The names of a program in bytewise order, and types and signatures with their numbers in place of names.
+#![tactic(auto)]
+
+mod collect;
+mod names;
+mod sigs;
+mod types;
+
+pub use names::OrderedNames;
+pub use sigs::{method_sig, numbers_of};
+pub use types::{ty_of, ty_opt_of};

@@ -1,0 +1,61 @@
+//! Names in bytewise order.
+ghost use Rattle.std.specs.Prelude.{◌≡◌, IfOk, MatchOption, false, map};
+ghost use Rattle.th_tree.specs.Names.{is_there, place_of};
+ghost use Rattle.th_meaning.specs.View.{interface_of, program_of};
+ghost use Rattle.th_numbered.specs.Names.{AreOrdered, all_names};
+
+use std::alloc::{AllocError, Global};
+use std::marker::Model;
+use th_meaning::{CoreInterface, CoreModule};
+use th_tree::NameTable;
+
+/// Names in bytewise order, each once. A name's number is its place. A contract sees the list of the names.
+#[derive(Drop)]
+pub struct OrderedNames {
+    table: NameTable,
+}
+
+impl Model for OrderedNames {
+    ghost use Rattle.std.specs.Prelude.{ℕ, List};
+    ghost use Rattle.th_numbered.specs.Names.{IsAscending};
+
+    ghost Value = { List (List ℕ) };
+
+    ghost view = { λ a. a.table };
+
+    ghost invariant = { λ a. IsAscending a.table };
+}
+
+impl OrderedNames {
+    /// The names of what interfaces declare and of the classes of modules.
+    pub fn of(
+        alloc: Global,
+        interfaces: &[&CoreInterface],
+        modules: &[CoreModule],
+    ) -> Result<OrderedNames, AllocError>
+        ensures { IfOk result (AreOrdered (all_names (map (λ i. interface_of i.now) interfaces.now) (program_of modules.now))) }
+    {
+        Err(AllocError)
+    }
+
+    /// The number of a name; None exactly where it is not there.
+    pub fn find(&self, name: &[u8]) -> Option<u32>
+        ensures { MatchOption result (is_there self.now name.now ≡ false) (λ k. k ≡ place_of self.now name.now) }
+    {
+        None
+    }
+
+    /// The number of a name. A name that is not there is want of memory.
+    pub fn number(&self, name: &[u8]) -> Result<u32, AllocError>
+        ensures { IfOk result (λ k. k ≡ place_of self.now name.now) }
+    {
+        self.find(name).ok_or(AllocError)
+    }
+
+    /// The table of the names.
+    pub fn into_table(self) -> NameTable
+        ensures { result ≡ self }
+    {
+        self.table
+    }
+}

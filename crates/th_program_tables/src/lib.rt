@@ -1,0 +1,14 @@
+//! The layout and the tables of a program of checked modules, or the first limit of linking above which a count is.
+#![tactic(auto)]
+
+mod error;
+mod program;
+
+pub use error::LinkError;
+pub use program::{ProgramTables, program_tables};
+
+#[cfg(test)]
+mod tests {
+    #[test]
+    fn nothing() {}
+}
