@@ -63,8 +63,8 @@ pub fn class_shapes(
     ensures { IfOk result (λ v. shapes_of v.items ≡ shapes_in names.now (program_of modules.now)) }
 {
     let mut shapes = Vec::new(alloc);
-    for module in modules {
-        push_all(alloc, names, &module.classes, &mut shapes)?;
+    for program in modules {
+        push_all(alloc, names, &program.classes, &mut shapes)?;
     }
     Ok(shapes)
 }

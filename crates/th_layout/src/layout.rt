@@ -15,6 +15,7 @@ ghost use Rattle.th_views.specs.Chain.{among, hidden, lookup};
 ghost use Rattle.th_views.specs.Home.{offers};
 ghost use Rattle.th_views.specs.Rows.{chain_of, tree_of};
 ghost use Rattle.th_views.specs.Objects.{Sound};
+ghost use Rattle.th_views.specs.Sums.{sum_words};
 
 use crate::limits::LayoutError;
 use crate::sides::{
@@ -113,16 +114,27 @@ impl Layout {
 
     /// The rows of the types, each after its supertypes.
     pub fn types(&self) -> &[TypeRow]
-        ensures { result.now ≡ self.now.types }
+        ensures rows { result.now ≡ self.now.types }
+        ensures sound { Sound self.now }
     {
         &self.types
     }
 
-    /// The rows of the classes, each after the class that it inherits.
+    /// The rows of the classes, each after the class that it inherits and for one of the types.
     pub fn classes(&self) -> &[ClassRow]
-        ensures { result.now ≡ self.now.classes }
+        ensures rows { result.now ≡ self.now.classes }
+        ensures sound { Sound self.now }
+        ensures typed { Typed self.now }
     {
         &self.classes
+    }
+
+    /// The header words of the class at a place, as the limits count them.
+    pub fn class_sum(&self, place: u32) -> u32
+        requires { place < length self.now.classes }
+        ensures { result ≡ sum_words (chain_of self.now place) }
+    {
+        self.sums.classes[place as usize].sum
     }
 
     /// The place of the type with a number.
@@ -326,8 +338,8 @@ impl Layout {
         }
     }
 
-    /// Whether a type has a method.
-    fn offers(&self, place: u32, method: u32) -> bool
+    /// Whether the type at a place has a method.
+    pub fn offers(&self, place: u32, method: u32) -> bool
         requires { place < length self.now.types }
         ensures { result ≡ offers (tree_of self.now.types place) method }
     {

@@ -3,7 +3,9 @@
 
 mod collect;
 mod names;
+mod search;
 mod sigs;
+mod sorting;
 mod types;
 
 pub use names::OrderedNames;

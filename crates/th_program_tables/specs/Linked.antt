@@ -63,3 +63,8 @@ AreProgramTables p names tables =
 abbrev pub IsNotLinked : Program → LinkError → Type 0
 IsNotLinked p Memory = Unit {0}
 IsNotLinked p e = (names : List (List ℕ)) × (rows : Rows) × IsLayoutOf p names rows × FirstAbove p names rows e
+
+-- the error says that a count of this kind is above the limit, and how much it is
+abbrev pub IsAboveError : What → ℕ → ℕ → LinkError → Type 0
+IsAboveError what limit n (TooLarge w count) = (w ≡ what) × IsAbove limit n count
+IsAboveError what limit n _ = ⊥

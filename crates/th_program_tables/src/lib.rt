@@ -2,13 +2,9 @@
 #![tactic(auto)]
 
 mod error;
+mod limits;
+mod parts;
 mod program;
 
 pub use error::LinkError;
 pub use program::{ProgramTables, program_tables};
-
-#[cfg(test)]
-mod tests {
-    #[test]
-    fn nothing() {}
-}
