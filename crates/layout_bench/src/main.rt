@@ -9,7 +9,7 @@ use std::alloc::{AllocError, Global};
 use std::env;
 use th_decl::parse_interface;
 use th_hier::{Hierarchy, has_room};
-use th_lawful::{are_lawful, laid_out};
+use th_lawful::{are_lawful, laid_out, lattice_of};
 use th_lex::lex;
 use th_table::TableClass;
 use th_tree::NameTable;
@@ -143,8 +143,11 @@ fn number(word: Option<String>) -> Result<u32> {
 
 /// How many header words and slots the tables of classes have.
 fn tabled(alloc: Global, hierarchy: &Hierarchy, classes: &[ClassShape]) -> Result<(usize, usize)> {
-    ensure!(are_lawful(hierarchy, classes), "the classes have no layout");
-    let (_, tables) = laid_out(alloc, hierarchy, classes, 64)?;
+    let Some(lattice) = lattice_of(alloc, hierarchy)? else {
+        bail!("the types have no lattice");
+    };
+    ensure!(are_lawful(&lattice, classes), "the classes have no layout");
+    let (_, tables) = laid_out(alloc, &lattice, classes, 64)?;
     Ok(counted(&tables.list))
 }
 

@@ -5,7 +5,7 @@ use crate::texts::{Types, asked_type, asked_types};
 use anyhow::{Result, bail, ensure};
 use std::alloc::{AllocError, Global};
 use std::str;
-use th_lawful::{are_lawful, laid_out};
+use th_lawful::{are_lawful, laid_out, lattice_of};
 use th_layout::{Layout, LayoutError};
 use th_table::{Tables, dump};
 use th_tree::NameTable;
@@ -92,11 +92,14 @@ fn laid(
     classes: &[ClassShape],
     limit: u32,
 ) -> Result<Result<(Layout, Tables), LayoutError>> {
+    let Some(lattice) = lattice_of(alloc, &types.hierarchy)? else {
+        bail!("the types have no lattice");
+    };
     ensure!(
-        limit <= 64 && are_lawful(&types.hierarchy, classes),
+        limit <= 64 && are_lawful(&lattice, classes),
         "the classes have no layout"
     );
-    Ok(laid_out(alloc, &types.hierarchy, classes, limit))
+    Ok(laid_out(alloc, &lattice, classes, limit))
 }
 
 /// The dump of tables as a text.

@@ -3,6 +3,7 @@ ghost use Rattle.std.specs.Prelude.{◌≡◌, ◌-◌, ◌^◌, IfOk, min};
 ghost use Rattle.th_table_counts.specs.Counted.{table_words};
 
 use crate::classes::class_words;
+use crate::types::all_narrowed;
 use std::alloc::{AllocError, Global};
 use th_layout::Layout;
 
@@ -15,9 +16,10 @@ pub fn table_words(alloc: Global, layout: &Layout) -> Result<u64, AllocError>
     if count > u32::MAX as usize {
         return Err(AllocError);
     }
+    let counts = all_narrowed(alloc, layout)?;
     let mut total: u64 = 0;
     for place in 0..count as u32 {
-        let words = class_words(alloc, layout, place)?;
+        let words = class_words(alloc, layout, &counts, place)?;
         total = total.saturating_add(words);
     }
     Ok(total)
