@@ -102,7 +102,7 @@ named T x up h = named_case T x (is_there T x) refl up h
 
 in_named_case : (T : List (List ℕ)) (x t : List ℕ) (v : Bool) → IsIn t (if v then T else T ++ x ∷ []) → IsIn t T ⊎ (t ≡ x)
 in_named_case T x t true i = inl i
-in_named_case T x t false i = elim (from_append t T (x ∷ []) i) [ inl h ↦ inl h | inr o ↦ elim o [ inl e ↦ inr e | inr no ↦ absurd no ] ]
+in_named_case T x t false i = elim (from_append t T (x ∷ []) i) [ inl h ↦ inl h | inr o ↦ elim o [ inl e ↦ inr e | inr gone ↦ absurd gone ] ]
 
 in_named : (T : List (List ℕ)) (x t : List ℕ) → IsIn t (with_name T x) → IsIn t T ⊎ (t ≡ x)
 in_named T x t i = in_named_case T x t (is_there T x) i
@@ -184,7 +184,7 @@ permuted_bytes : (n : List ℕ) (xs ys : List (Bor (List ℕ))) → IsPermutatio
 permuted_bytes n xs ys p i = let r = from_map (λ b. b.now) n xs i in subst (λ w. IsIn w (bytes_of ys)) (sym r.2) (in_map (λ b. b.now) r.0 ys (permuted r.0 xs ys p r.1))
 
 none_left : (n : List ℕ) (xs : List (List ℕ)) → IsIn n [] ⊎ IsIn n xs → IsIn n xs
-none_left n xs (inl no) = absurd no
+none_left n xs (inl gone) = absurd gone
 none_left n xs (inr i) = i
 
 empty_up : IsAscending []
@@ -194,7 +194,7 @@ empty_up = tt
 -- names that were sorted, put into an empty table
 pub ordered : (names sorted : List (Bor (List ℕ))) → IsPermutation names sorted → IsSorted cmp_of sorted → AreOrdered (bytes_of names) (with_all [] (bytes_of sorted))
 ordered names sorted p h = record {
-  ascending = all_up [] (bytes_of sorted) empty_up (λ y i t no. absurd no) (rising sorted h);
+  ascending = all_up [] (bytes_of sorted) empty_up (λ y i t gone. absurd gone) (rising sorted h);
   all = λ n i. all_come [] (bytes_of sorted) n (permuted_bytes n names sorted p i);
   only = λ n i. permuted_bytes n sorted names (IsPermutation-sym names sorted p) (none_left n (bytes_of sorted) (all_from [] (bytes_of sorted) n i));
 }

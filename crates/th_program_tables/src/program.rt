@@ -1,6 +1,8 @@
 //! The tables of a program.
-ghost use Rattle.std.specs.Prelude.{IfOk, MatchResult};
+ghost use Rattle.std.specs.Prelude.{◌≡◌, IfOk, MatchResult};
 ghost use Rattle.th_layout.specs.Refusals.{Accepted, RefusedBy};
+ghost use Rattle.th_layout.specs.declared.limits.LayoutError.TheVariants as layout;
+ghost use Rattle.th_program_tables.specs.declared.error.LinkError.TheVariants.{Memory};
 ghost use Rattle.th_meaning.specs.Program.{Program};
 ghost use Rattle.th_meaning.specs.View.{program_of};
 ghost use Rattle.th_views.specs.Rows.{Program as Rows};
@@ -29,7 +31,8 @@ pub struct ProgramTables {
 
 /// The refusal of a layout, with a name in place of a number.
 fn named(alloc: Global, names: &OrderedNames, error: LayoutError) -> Result<LinkError, AllocError>
-    ensures { IfOk result (λ e. (p : Program) (rows : Rows) → RefusedBy 64 rows error → FirstAbove p names.now rows e) }
+    ensures above { IfOk result (λ e. (p : Program) (rows : Rows) → RefusedBy 64 rows error → FirstAbove p names.now rows e) }
+    ensures memory { IfOk result (λ e. error ≡ layout.Memory → e ≡ Memory) }
 {
     match error {
         LayoutError::TooManyWords(number) => {
@@ -50,7 +53,8 @@ fn named(alloc: Global, names: &OrderedNames, error: LayoutError) -> Result<Link
 
 /// The same; want of memory is the refusal where the name cannot be copied.
 fn refusal_of(alloc: Global, names: &OrderedNames, error: LayoutError) -> LinkError
-    ensures { (p : Program) (rows : Rows) → RefusedBy 64 rows error → FirstAbove p names.now rows result }
+    ensures above { (p : Program) (rows : Rows) → RefusedBy 64 rows error → FirstAbove p names.now rows result }
+    ensures memory { error ≡ layout.Memory → result ≡ Memory }
 {
     match named(alloc, names, error) {
         Ok(error) => error,
