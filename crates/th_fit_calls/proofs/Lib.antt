@@ -1,0 +1,5 @@
+pub mod Supplied
+pub mod Shapes
+pub mod Stand
+pub mod Callees
+pub mod Deciding

@@ -1,0 +1,10 @@
+pub mod Names
+pub mod Signatures
+pub mod Exprs
+pub mod Ending
+pub mod Stmts
+pub mod Units
+pub mod Inheriting
+pub mod Types
+pub mod Classes
+pub mod Fits

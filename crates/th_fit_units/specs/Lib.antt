@@ -1,0 +1,2 @@
+pub mod JudgeStmts
+pub mod JudgeUnits
