@@ -1,5 +1,5 @@
 -- Which classes of modules fit: their heads, their methods, and what their bodies override and inherit.
-use Rattle.std.specs.Prelude.{◌≡◌, ◌≢◌, ℕ, Bool, true, false, ◌&&◌, bytes_eq, List, [], ◌∷◌, map, filter, Option, Some, None, All, Contains, codes, is_some, is_none}
+use Rattle.std.specs.Prelude.{◌≡◌, ◌≢◌, ℕ, true, false, ◌&&◌, bytes_eq, List, [], ◌∷◌, map, filter, Option, Some, None, All, Contains, codes, is_some, is_none}
 use Rattle.std.specs.List.{IsDistinct}
 use Rattle.th_meaning.specs.Trees.{TypeTree, Signature, MethodTree}
 use Rattle.th_meaning.specs.Program.{ClassHead, ClassDecl, RoutineDecl, ProgramInterface, ProgramClass, of_routine, of_method, of_init, ProgramUnit, ProgramModule, Program, class_named, unit_named, full_name, method_name, init_name, inherited_name, has_body, walk}

@@ -1,13 +1,11 @@
 -- Which expressions and calls fit: each names what is there, and each operand has the type that its form needs. Casts are written,
 -- so that the type that is needed is the type that is there.
-use Rattle.std.specs.Prelude.{◌≡◌, ◌≢◌, ◌⊎◌, ℕ, zero, suc, ◌+◌, ◌<◌, ◌^◌, Bool, true, false, ◌&&◌, not, bytes_eq, nat_eq, List, [], ◌∷◌, ◌++◌, length, map, Option, Some, None, option_map, find, flat_map, slice_get, All, Contains, is_some, if◌then◌else◌}
+use Rattle.std.specs.Prelude.{◌≡◌, ◌⊎◌, ℕ, ◌<◌, ◌^◌, Bool, true, false, nat_eq, List, [], ◌∷◌, length, Option, Some, None, option_map, find, slice_get}
 use Rattle.th_meaning.specs.declared.expr.CompareOp.{CompareOp}
 use Rattle.th_meaning.specs.declared.expr.CompareOp.TheVariants.{Equal, NotEqual, Less, LessEqual, Greater, GreaterEqual}
-use Rattle.th_meaning.specs.Trees.{TypeTree, int_type, bool_type, text_type, array_type, named_type, param_type, TypeTrees, Signature, ClauseTree, SupplyTree, CastTree, ExprTree, number_expr, truth_expr, literal_expr, self_expr, local_expr, field_expr, negative_expr, arith_expr, compare_expr, same_expr, not_expr, and_expr, or_expr, join_expr, letter_expr, extent_expr, element_expr, length_expr, cast_expr, call_expr, new_expr, new_array_expr, get_byte_expr, ExprTrees, no_expr, more_exprs, CallTree, routine_call, method_call, hidden_call, super_call, where_call, init_call, Variable, StmtTree, var_stmt, set_local_stmt, set_field_stmt, set_element_stmt, call_stmt, drop_stmt, if_stmt, while_stmt, for_stmt, break_stmt, return_stmt, return_value_stmt, yield_stmt, raise_stmt, raise_value_stmt, begin_stmt, put_byte_stmt, put_int_stmt, put_text_stmt, BodyTree, no_stmt, more_stmts, ElseTree, no_else, else_do, elseif_then, WhenTrees, no_when, more_whens}
-use Rattle.th_meaning.specs.Program.{TypeDecl, ExceptionDecl, FieldDecl, ProgramClass, UnitSort, of_routine, of_method, of_init, ProgramUnit, Program, class_named, unit_named, init_name, inherited_name}
-use Rattle.th_meaning.specs.Counts.{stmt_locals, body_locals, else_locals, whens_locals, variable_nodes}
+use Rattle.th_meaning.specs.Trees.{TypeTree, int_type, bool_type, text_type, array_type, named_type, param_type, TypeTrees, Signature, ClauseTree, SupplyTree, CastTree, ExprTree, number_expr, truth_expr, literal_expr, self_expr, local_expr, field_expr, negative_expr, arith_expr, compare_expr, same_expr, not_expr, and_expr, or_expr, join_expr, letter_expr, extent_expr, element_expr, length_expr, cast_expr, call_expr, new_expr, new_array_expr, get_byte_expr, ExprTrees, no_expr, more_exprs, CallTree, routine_call, method_call, hidden_call, super_call, where_call, init_call, Variable}
+use Rattle.th_meaning.specs.Program.{ProgramClass, of_routine, ProgramUnit, Program, class_named, unit_named, init_name, inherited_name}
 use Rattle.th_meaning.specs.Weights.{type_list, substituted, arguments}
-use Rattle.th_meaning.specs.World.{overflow, zero_divide, bounds, end_of_input}
 use Rattle.th_meaning.specs.Typing.{TypeStands, TypesStand, Subtype, sig_with, method_sig, class_sig, AllSatisfied}
 
 -- where an expression or a statement stands: in the body of a method of a class, in its initializer, or in no class; with so many

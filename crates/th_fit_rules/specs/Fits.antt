@@ -1,5 +1,5 @@
 -- Which modules fit together to a program.
-use Rattle.std.specs.Prelude.{◌≡◌, ℕ, bytes_eq, Bool, false, List, [], ◌++◌, length, map, None, All, Contains}
+use Rattle.std.specs.Prelude.{◌≡◌, bytes_eq, false, [], ◌++◌, length, map, None, All, Contains}
 use Rattle.std.specs.List.{IsDistinct}
 use Rattle.th_meaning.specs.Program.{ProgramInterface, of_routine, ProgramUnit, ProgramModule, Program, unit_names, classes_of, mains}
 use Rattle.th_fit_rules.specs.Names.{IsName}

@@ -1,9 +1,9 @@
 -- What stands above a class, and when signatures of one method fit one another along a chain.
-use Rattle.std.specs.Prelude.{◌≡◌, ℕ, zero, suc, ◌+◌, ◌<◌, max, List, map, Option, Some, None, option_map, All}
+use Rattle.std.specs.Prelude.{◌≡◌, ℕ, zero, suc, ◌+◌, max, List, map, Option, Some, None, option_map}
 use Rattle.th_meaning.specs.Trees.{TypeTree, int_type, bool_type, text_type, array_type, named_type, param_type, TypeTrees, no_type, more_types, Signature}
-use Rattle.th_meaning.specs.Program.{TypeDecl, ClassHead, Program, type_named, class_named, inherited_name}
+use Rattle.th_meaning.specs.Program.{TypeDecl, ClassHead, Program, type_named, class_named}
 use Rattle.th_meaning.specs.Weights.{type_list, substituted}
-use Rattle.th_meaning.specs.Typing.{Subtype, sig_with, method_sig, class_sig, Conforms, ExactlyConforms}
+use Rattle.th_meaning.specs.Typing.{Subtype, sig_with, method_sig, class_sig, Conforms}
 
 -- the head of a class that a module defines
 abbrev pub defined_head : Program → List ℕ → Option ClassHead

@@ -1,5 +1,5 @@
 -- Which declared types and interfaces fit.
-use Rattle.std.specs.Prelude.{◌≡◌, ◌≢◌, ℕ, ◌≤◌, bytes_eq, List, map, filter_map, Option, Some, None, option_map, find, flat_map, All, Contains, codes}
+use Rattle.std.specs.Prelude.{◌≡◌, ◌≢◌, ℕ, ◌<◌, ◌≤◌, false, bytes_eq, List, length, map, filter_map, Option, Some, None, find, flat_map, All, Contains, codes}
 use Rattle.std.specs.List.{IsDistinct}
 use Rattle.th_meaning.specs.Trees.{TypeTree, named_type, TypeTrees, Signature}
 use Rattle.th_meaning.specs.Program.{TypeDecl, ClassHead, ProgramInterface, Program, name_of_type}
@@ -7,7 +7,7 @@ use Rattle.th_meaning.specs.Weights.{type_list}
 use Rattle.th_meaning.specs.Typing.{TypeStands, TypesStand, OfSome, Subtype, sig_in, method_sig, ExactlyConforms}
 use Rattle.th_fit_rules.specs.Names.{IsName, exported_name, declared_names}
 use Rattle.th_fit_rules.specs.Signatures.{SigStands, ClausesStand}
-use Rattle.th_fit_rules.specs.Inheriting.{own_type, type_height, ConformsIn}
+use Rattle.th_fit_rules.specs.Inheriting.{own_type, type_height, Above, ConformsIn}
 
 -- the full names of a type's declared supertypes
 abbrev pub supertype_names : TypeDecl → List (List ℕ)

@@ -1,5 +1,5 @@
 -- Which units fit: their signatures, and the statements of routines, iterators, bodies of methods and initializers.
-use Rattle.std.specs.Prelude.{◌≡◌, ◌≢◌, ℕ, suc, ◌<◌, Bool, true, false, nat_eq, List, [], ◌∷◌, length, Option, Some, None, All, Contains, if◌then◌else◌}
+use Rattle.std.specs.Prelude.{◌≡◌, ◌≢◌, ℕ, suc, ◌<◌, true, false, nat_eq, List, [], ◌∷◌, length, Option, Some, None, All, Contains, if◌then◌else◌}
 use Rattle.std.specs.List.{IsDistinct}
 use Rattle.th_meaning.specs.Trees.{TypeTree, Signature, init_call, Variable, set_field_stmt, call_stmt, BodyTree, no_stmt, more_stmts}
 use Rattle.th_meaning.specs.Program.{ProgramClass, UnitSort, of_routine, of_method, of_init, ProgramUnit, ProgramModule, Program, method_name, init_name}
