@@ -12,7 +12,8 @@ use Rattle.th_fit_rules.specs.Signatures.{exception_argument, ExceptionIs, prede
 use Rattle.th_fit_calls.specs.Judge.{type_stands}
 use Rattle.th_fit_calls.proofs.Shapes.{is_some_to, is_some_from}
 use Rattle.th_fit_calls.proofs.Stand.{stands_to, stands_from}
-use Rattle.th_fit_rules.proofs.Elements.{no_element, contains_cons, contains_here, contains_there}
+use Rattle.th_fit_rules.proofs.Elements.{no_element, contains_cons, contains_here, contains_there, none_distinct}
+use Rattle.std.proofs.lemmas.Map.Keys.{IsDistinct-cons, IsDistinct-head, IsDistinct-tail}
 use Rattle.th_fit_rules.specs.Signatures.{SigStands}
 use Rattle.th_fit_sigs.specs.Tests.{gives_stand, is_predeclared, signal_stands, are_distinct, sig_stands}
 
@@ -74,12 +75,12 @@ none_from x [] h = refl
 none_from x (y ∷ ys) h = ap (λ b. not (b || list_any (bytes_eq x) ys)) h.0 ∙ none_from x ys h.1
 
 distinct_to : (xs : List (List ℕ)) → are_distinct xs ≡ true → IsDistinct bytes_eq xs
-distinct_to [] h = tt
-distinct_to (x ∷ xs) h = let q = and_parts (not (list_any (bytes_eq x) xs)) (are_distinct xs) h in (none_to x xs q.0, distinct_to xs q.1)
+distinct_to [] h = none_distinct bytes_eq
+distinct_to (x ∷ xs) h = let q = and_parts (not (list_any (bytes_eq x) xs)) (are_distinct xs) h in IsDistinct-cons bytes_eq x xs (none_to x xs q.0) (distinct_to xs q.1)
 
 distinct_from : (xs : List (List ℕ)) → IsDistinct bytes_eq xs → are_distinct xs ≡ true
 distinct_from [] h = refl
-distinct_from (x ∷ xs) h = and_from (not (list_any (bytes_eq x) xs)) (are_distinct xs) (none_from x xs h.0) (distinct_from xs h.1)
+distinct_from (x ∷ xs) h = and_from (not (list_any (bytes_eq x) xs)) (are_distinct xs) (none_from x xs (IsDistinct-head bytes_eq x xs h)) (distinct_from xs (IsDistinct-tail bytes_eq x xs h))
 
 -- what tells whether copies of the names differ
 pub distinct_is : (xs ys : List (List ℕ)) (r : Bool) → ys ≡ xs → IsTrue r ↔ IsDistinct bytes_eq ys → r ≡ are_distinct xs

@@ -5,6 +5,8 @@ use Rattle.std.specs.List.{list_any, IsDistinct, AllByRecursion}
 use Rattle.std.proofs.lemmas.Bool.{and_parts, and_from, or_cases, eqb-true, eq-eqb}
 use Rattle.std.proofs.lemmas.List.Elements.{All-from_recursion}
 use Rattle.std.proofs.lemmas.List.Folds.{list_any-append}
+use Rattle.std.proofs.lemmas.Map.Keys.{IsDistinct-cons, IsDistinct-head, IsDistinct-tail}
+use Rattle.th_fit_rules.proofs.Elements.{none_distinct}
 use Rattle.th_meaning.specs.Trees.{TypeTree, int_type, bool_type, text_type, array_type, named_type, param_type, TypeTrees, no_type, more_types, Signature, SupplyTree, ExprTree, ExprTrees, init_call, StmtTree, set_field_stmt, call_stmt, BodyTree, no_stmt, more_stmts}
 use Rattle.th_meaning.specs.Program.{FieldDecl, ProgramClass, inherited_name}
 use Rattle.th_meaning.specs.Weights.{type_list, same_types, arguments}
@@ -173,13 +175,13 @@ module _ (below : TypeTree → TypeTree → Bool) (at : Place) (tells : Tells be
       record {
         fields = f ∷ r.fields;
         fit = subst (λ z. AssignsFit at class (more_stmts z rest) (f ∷ r.fields)) (sym o.1) (refl, refl, o.2, r.fit);
-        once = (a.1, r.once);
+        once = IsDistinct-cons nat_eq f r.fields a.1 r.once;
         apart = (not_to (list_any (nat_eq f) seen) q.0, a.0);
         all = (let k = length-append seen (f ∷ []) in let l = r.all in omega (arith, k, l));
       }
 
   assigns_to : (class : List ℕ) (count : ℕ) (b : BodyTree) (seen : List ℕ) → assigns below at (formal_slots at.sig.formals) class count b seen ≡ true → Fields class count b seen
-  assigns_to class count no_stmt seen h = record { fields = []; fit = tt; once = tt; apart = tt; all = omega (arith, eqb-true (length seen) count h) }
+  assigns_to class count no_stmt seen h = record { fields = []; fit = tt; once = none_distinct nat_eq; apart = tt; all = omega (arith, eqb-true (length seen) count h) }
   assigns_to class count (more_stmts s rest) seen h =
       fields_more class count s rest seen (assigned_field below at (formal_slots at.sig.formals) class s) refl h (λ f k. assigns_to class count rest (seen ++ f ∷ []) k)
 
@@ -192,11 +194,11 @@ module _ (below : TypeTree → TypeTree → Bool) (at : Place) (tells : Tells be
       let p : set_field_stmt c f e ≡ set_field_stmt class f e = ap (λ n. set_field_stmt n f e) h.0 in
       let i : assigned_field below at (formal_slots at.sig.formals) class (set_field_stmt c f e) ≡ Some f = ap (assigned_field below at (formal_slots at.sig.formals) class) p ∙ o in
       let fresh : list_any (nat_eq f) seen ≡ false = subst (λ n. list_any (nat_eq n) seen ≡ false) (sym h.1) a.0 in
-      let away : Apart (seen ++ f ∷ []) fields = subst (λ n. Apart (seen ++ n ∷ []) fields) (sym h.1) (apart_from g seen fields a.1 d.0) in
+      let away : Apart (seen ++ f ∷ []) fields = subst (λ n. Apart (seen ++ n ∷ []) fields) (sym h.1) (apart_from g seen fields a.1 (IsDistinct-head nat_eq g fields d)) in
       let many : length (seen ++ f ∷ []) + length fields ≡ count = (let j = length-append seen (f ∷ []) in omega (arith, j, k)) in
       ap (λ x. is_new x seen && assigns below at (formal_slots at.sig.formals) class count rest (with_field x seen)) i
       ∙ and_from (not (list_any (nat_eq f) seen)) (assigns below at (formal_slots at.sig.formals) class count rest (seen ++ f ∷ [])) (not_from (list_any (nat_eq f) seen) fresh)
-      (assigns_from class count rest (seen ++ f ∷ []) fields h.3 d.1 away many)
+      (assigns_from class count rest (seen ++ f ∷ []) fields h.3 (IsDistinct-tail nat_eq g fields d) away many)
   assigns_from class count _ seen _ h d a k = absurd h
 
   slot_within : {A : Type 0} (xs : List A) (k : ℕ) (o : Option A) → slice_get xs k ≡ o → is_some o ≡ true → k < length xs
