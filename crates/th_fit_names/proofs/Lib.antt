@@ -1,4 +1,0 @@
-pub mod NameLemmas
-pub mod OrderLemmas
-pub mod ItemLemmas
-pub mod FullNames

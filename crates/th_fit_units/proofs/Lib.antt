@@ -1,5 +1,0 @@
-pub mod Slots
-pub mod Locals
-pub mod DecidingStmts
-pub mod DecidingUnits
-pub mod DecidingInits

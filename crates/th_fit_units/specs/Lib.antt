@@ -1,2 +1,0 @@
-pub mod JudgeStmts
-pub mod JudgeUnits
