@@ -120,43 +120,26 @@ fn put_stmt(
         CoreStmt::SetElement(a, i, e) => put_element(site, code, a, i, e, b),
         CoreStmt::Call(call) => put_call(site, code, call, b),
         CoreStmt::Drop(call) => put_dropped(site, code, call, b),
-        CoreStmt::If(test, body, rest) => put_if(site, code, exit, test, body, rest, b),
-        CoreStmt::While(test, body) => put_while(site, code, test, body, b),
-        CoreStmt::For(v, cast, call, body) => put_for(site, code, v, cast, call, body, b),
+        CoreStmt::If(test, body, rest) => {
+            let m = put_branch(site, code, exit, body, test, size_of_jump(rest), b)?;
+            put_else(site, code, exit, rest, m)
+        }
+        CoreStmt::While(test, body) => put_while(site, code, body, test, b),
+        CoreStmt::For(v, cast, call, body) => put_for(site, code, body, v, cast, call, b),
         CoreStmt::Break => code.put(FlatOp::OpGo { l: exit }, b),
         CoreStmt::Return => code.put(FlatOp::OpReturn { f: 0 }, b),
         CoreStmt::ReturnValue(e) => put_then(site, code, e, FlatOp::OpReturn { f: 1 }, b),
         CoreStmt::Yield(e) => put_then(site, code, e, FlatOp::OpResume, b),
         CoreStmt::Raise(name) => code.put(raise_op(site, name, 0)?, b),
         CoreStmt::RaiseValue(name, e) => put_then(site, code, e, raise_op(site, name, 1)?, b),
-        CoreStmt::Begin(body, whens) => put_begin(site, code, exit, body, whens, b),
+        CoreStmt::Begin(body, whens) => {
+            let m = put_begin(site, code, exit, body, whens, b)?;
+            put_whens(site, code, exit, whens, m)
+        }
         CoreStmt::PutByte(e) => put_then(site, code, e, FlatOp::OpPutbyte { l }, b),
         CoreStmt::PutInt(e) => put_then(site, code, e, FlatOp::OpPutint, b),
         CoreStmt::PutString(e) => put_then(site, code, e, FlatOp::OpPuttext, b),
     }
-}
-
-/// The code of an `if`.
-#[cycle(put_stmt)]
-fn put_if(
-    site: &Site<'_>,
-    code: &mut Code,
-    exit: u32,
-    test: &CoreExpr,
-    body: &CoreBody,
-    rest: &CoreElse,
-    b: u32,
-) -> Result<u32, AllocError>
-    ensures ops { OnOk result (code.new.ops.items ≡ code.old.ops.items ++ (expr_code (site_of site.now) (expr_of test.now) b ++ OpUnless (b + expr_size (expr_of test.now) + 1 + body_size (body_of body.now) + else_jump (else_of rest.now))
-        ∷ (body_code (site_of site.now) (body_of body.now) (b + expr_size (expr_of test.now) + 1) exit
-        ++ else_code (site_of site.now) (else_of rest.now) (b + expr_size (expr_of test.now) + 1 + body_size (body_of body.now)) exit))) }
-    ensures stubs { OnOk result (code.new.stubs.items ≡ code.old.stubs.items ++ (expr_stubs (site_of site.now) (expr_of test.now) b
-        ++ (body_stubs (site_of site.now) (body_of body.now) (b + expr_size (expr_of test.now) + 1)
-        ++ else_stubs (site_of site.now) (else_of rest.now) (b + expr_size (expr_of test.now) + 1 + body_size (body_of body.now))))) }
-    ensures place { IfOk result (λ next. next ≡ b + (expr_size (expr_of test.now) + body_size (body_of body.now) + else_size (else_of rest.now) + 1)) }
-{
-    let m = put_branch(site, code, exit, test, body, size_of_jump(rest), b)?;
-    put_else(site, code, exit, rest, m)
 }
 
 /// The code of a test, and of the statements that are skipped where it is false; `jump` is how long the jump is before what follows.
@@ -165,8 +148,8 @@ fn put_branch(
     site: &Site<'_>,
     code: &mut Code,
     exit: u32,
-    test: &CoreExpr,
     body: &CoreBody,
+    test: &CoreExpr,
     jump: u64,
     b: u32,
 ) -> Result<u32, AllocError>
@@ -187,8 +170,8 @@ fn put_branch(
 fn put_while(
     site: &Site<'_>,
     code: &mut Code,
-    test: &CoreExpr,
     body: &CoreBody,
+    test: &CoreExpr,
     b: u32,
 ) -> Result<u32, AllocError>
     ensures ops { OnOk result (code.new.ops.items ≡ code.old.ops.items ++ OpGo (b + 2 + body_size (body_of body.now)) ∷ OpTurn
@@ -215,10 +198,10 @@ fn put_while(
 fn put_for(
     site: &Site<'_>,
     code: &mut Code,
+    body: &CoreBody,
     variable: &CoreVariable,
     cast: &Option<CoreCast>,
     call: &CoreCall,
-    body: &CoreBody,
     b: u32,
 ) -> Result<u32, AllocError>
     ensures ops { OnOk result (code.new.ops.items ≡ code.old.ops.items ++ (operands_code (site_of site.now) (call_of call.now) b
@@ -239,7 +222,7 @@ fn put_for(
     code.put(FlatOp::OpNext, next)
 }
 
-/// The code of a `begin`, with its handlers.
+/// The code of the statements before `except`, which handlers cover where there are some.
 #[cycle(put_stmt)]
 fn put_begin(
     site: &Site<'_>,
@@ -250,18 +233,15 @@ fn put_begin(
     b: u32,
 ) -> Result<u32, AllocError>
     ensures ops { OnOk result (code.new.ops.items ≡ code.old.ops.items ++ (block_code (whens_of whens.now) (b + block_size (whens_of whens.now) + body_size (body_of body.now) + 1) (b + block_size (whens_of whens.now) + body_size (body_of body.now))
-        ++ (body_code (site_of site.now) (body_of body.now) (b + block_size (whens_of whens.now)) exit
-        ++ whens_code (site_of site.now) (whens_of whens.now) (b + block_size (whens_of whens.now) + body_size (body_of body.now)) exit))) }
-    ensures stubs { OnOk result (code.new.stubs.items ≡ code.old.stubs.items ++ (body_stubs (site_of site.now) (body_of body.now) (b + block_size (whens_of whens.now))
-        ++ whens_stubs (site_of site.now) (whens_of whens.now) (b + block_size (whens_of whens.now) + body_size (body_of body.now)))) }
-    ensures place { IfOk result (λ next. next ≡ b + (body_size (body_of body.now) + whens_size (whens_of whens.now) + block_size (whens_of whens.now))) }
+        ++ body_code (site_of site.now) (body_of body.now) (b + block_size (whens_of whens.now)) exit)) }
+    ensures stubs { OnOk result (code.new.stubs.items ≡ code.old.stubs.items ++ body_stubs (site_of site.now) (body_of body.now) (b + block_size (whens_of whens.now))) }
+    ensures place { IfOk result (λ next. next ≡ b + block_size (whens_of whens.now) + body_size (body_of body.now)) }
 {
     let first = at(b, size_of_block(whens))?;
     let end = after_body(first, body)?;
     let handlers = at(end, 1)?;
     put_block(code, whens, handlers, end, b)?;
-    put_body(site, code, exit, body, first)?;
-    put_whens(site, code, exit, whens, end)
+    put_body(site, code, exit, body, first)
 }
 
 /// The code of statements, one after another.
@@ -311,7 +291,7 @@ fn put_else(
             }
             CoreElse::Elseif(test, body, next) => {
                 let m = code.put(FlatOp::OpGo { l: end }, place)?;
-                place = put_branch(site, code, exit, test, body, size_of_jump(next), m)?;
+                place = put_branch(site, code, exit, body, test, size_of_jump(next), m)?;
                 rest = next;
             }
         }
@@ -337,7 +317,7 @@ fn put_whens(
     while let CoreWhenList::MoreWhen(name, variable, body, next) = rest {
         let m = code.put(FlatOp::OpGo { l: end }, place)?;
         let l = next_handler(site, next, after_handle(m, variable, body)?)?;
-        place = put_when(site, code, exit, name, variable, body, l, m)?;
+        place = put_when(site, code, exit, body, name, variable, l, m)?;
         rest = next;
     }
     Ok(place)
@@ -349,9 +329,9 @@ fn put_when(
     site: &Site<'_>,
     code: &mut Code,
     exit: u32,
+    body: &CoreBody,
     name: &Name,
     variable: &Option<CoreVariable>,
-    body: &CoreBody,
     l: u32,
     b: u32,
 ) -> Result<u32, AllocError>

@@ -1,9 +1,7 @@
 //! The code of expressions and of the operands of calls.
 ghost use Rattle.std.specs.Prelude.{◌≡◌, ◌+◌, ◌++◌, ◌∷◌, [], IfOk, OnOk, map, length};
-ghost use Rattle.th_flat.specs.declared.op.FlatOp.{FlatOp};
-ghost use Rattle.th_flat.specs.declared.op.FlatOp.TheVariants.{OpNew, OpCall};
+ghost use Rattle.th_flat.specs.declared.op.FlatOp.TheVariants.{OpNew, OpCall, OpUnless, OpGo, OpWord};
 ghost use Rattle.th_meaning.specs.Program.{init_name};
-ghost use Rattle.th_meaning.specs.Trees.{and_expr, or_expr};
 ghost use Rattle.th_meaning.specs.View.{expr_of, exprs_of, call_of, supply_of};
 ghost use Rattle.th_lowering.specs.Sizes.{count, expr_size, exprs_size, operands_size};
 ghost use Rattle.th_lowering.specs.Site.{supplies_code};
@@ -55,15 +53,42 @@ pub fn put_expr(
             let m = put_expr(site, code, a, b)?;
             put_not(code, m)
         }
-        CoreExpr::Arith(op, x, y) => put_two(site, code, x, y, arith_op(site, *op), b),
-        CoreExpr::Compare(op, x, y) => put_two(site, code, x, y, compare_op(*op), b),
-        CoreExpr::Same(x, y) => put_two(site, code, x, y, FlatOp::OpSame, b),
-        CoreExpr::Join(x, y) => put_two(site, code, x, y, FlatOp::OpAppend { l }, b),
-        CoreExpr::Letter(x, y) => put_two(site, code, x, y, FlatOp::OpLetter { l }, b),
-        CoreExpr::Element(x, y) => put_two(site, code, x, y, FlatOp::OpAt { l }, b),
-        CoreExpr::NewArray(_, x, y) => put_two(site, code, x, y, FlatOp::OpArray { l }, b),
-        CoreExpr::And(x, y) => put_and(site, code, x, y, b),
-        CoreExpr::Or(x, y) => put_or(site, code, x, y, b),
+        CoreExpr::Arith(op, x, y) => {
+            let m = put_expr(site, code, x, b)?;
+            put_then(site, code, y, arith_op(site, *op), m)
+        }
+        CoreExpr::Compare(op, x, y) => {
+            let m = put_expr(site, code, x, b)?;
+            put_then(site, code, y, compare_op(*op), m)
+        }
+        CoreExpr::Same(x, y) => {
+            let m = put_expr(site, code, x, b)?;
+            put_then(site, code, y, FlatOp::OpSame, m)
+        }
+        CoreExpr::Join(x, y) => {
+            let m = put_expr(site, code, x, b)?;
+            put_then(site, code, y, FlatOp::OpAppend { l }, m)
+        }
+        CoreExpr::Letter(x, y) => {
+            let m = put_expr(site, code, x, b)?;
+            put_then(site, code, y, FlatOp::OpLetter { l }, m)
+        }
+        CoreExpr::Element(x, y) => {
+            let m = put_expr(site, code, x, b)?;
+            put_then(site, code, y, FlatOp::OpAt { l }, m)
+        }
+        CoreExpr::NewArray(_, x, y) => {
+            let m = put_expr(site, code, x, b)?;
+            put_then(site, code, y, FlatOp::OpArray { l }, m)
+        }
+        CoreExpr::And(x, y) => {
+            let m = put_expr(site, code, x, b)?;
+            put_and(site, code, y, m)
+        }
+        CoreExpr::Or(x, y) => {
+            let m = put_expr(site, code, x, b)?;
+            put_or(site, code, y, m)
+        }
         CoreExpr::Call(call) => {
             let m = put_operands(site, code, call, b)?;
             code.put(call_op(site, call, 1)?, m)
@@ -89,65 +114,31 @@ pub fn put_then(
     code.put(op, m)
 }
 
-/// The code of two operands, and an operation behind them.
+/// The code of `and` behind its left operand: the right one is skipped where the left one is false.
 #[cycle(put_expr)]
-fn put_two(
-    site: &Site<'_>,
-    code: &mut Code,
-    x: &CoreExpr,
-    y: &CoreExpr,
-    op: FlatOp,
-    b: u32,
-) -> Result<u32, AllocError>
-    ensures ops { OnOk result (code.new.ops.items ≡ code.old.ops.items ++ (expr_code (site_of site.now) (expr_of x.now) b
-        ++ (expr_code (site_of site.now) (expr_of y.now) (b + expr_size (expr_of x.now)) ++ op ∷ []))) }
-    ensures stubs { OnOk result (code.new.stubs.items ≡ code.old.stubs.items ++ (expr_stubs (site_of site.now) (expr_of x.now) b
-        ++ expr_stubs (site_of site.now) (expr_of y.now) (b + expr_size (expr_of x.now)))) }
-    ensures place { IfOk result (λ next. next ≡ b + (expr_size (expr_of x.now) + expr_size (expr_of y.now) + 1)) }
+fn put_and(site: &Site<'_>, code: &mut Code, y: &CoreExpr, m: u32) -> Result<u32, AllocError>
+    ensures ops { OnOk result (code.new.ops.items ≡ code.old.ops.items ++ OpUnless (m + 1 + expr_size (expr_of y.now) + 1)
+        ∷ (expr_code (site_of site.now) (expr_of y.now) (m + 1) ++ OpGo (m + 1 + expr_size (expr_of y.now) + 2) ∷ OpWord 0 ∷ [])) }
+    ensures stubs { OnOk result (code.new.stubs.items ≡ code.old.stubs.items ++ expr_stubs (site_of site.now) (expr_of y.now) (m + 1)) }
+    ensures place { IfOk result (λ next. next ≡ m + (expr_size (expr_of y.now) + 3)) }
 {
-    let m = put_expr(site, code, x, b)?;
-    let n = put_expr(site, code, y, m)?;
-    code.put(op, n)
-}
-
-/// The code of `and`: the right operand is skipped where the left one is false.
-#[cycle(put_expr)]
-fn put_and(
-    site: &Site<'_>,
-    code: &mut Code,
-    x: &CoreExpr,
-    y: &CoreExpr,
-    b: u32,
-) -> Result<u32, AllocError>
-    ensures ops { OnOk result (code.new.ops.items ≡ code.old.ops.items ++ expr_code (site_of site.now) (and_expr (expr_of x.now) (expr_of y.now)) b) }
-    ensures stubs { OnOk result (code.new.stubs.items ≡ code.old.stubs.items ++ expr_stubs (site_of site.now) (and_expr (expr_of x.now) (expr_of y.now)) b) }
-    ensures place { IfOk result (λ next. next ≡ b + expr_size (and_expr (expr_of x.now) (expr_of y.now))) }
-{
-    let m = put_expr(site, code, x, b)?;
     let right = at(m, 1)?;
     let go = after_expr(right, y)?;
     let no = at(go, 1)?;
     let end = at(go, 2)?;
     code.put(FlatOp::OpUnless { l: no }, m)?;
-    let n = put_expr(site, code, y, right)?;
-    let word = code.put(FlatOp::OpGo { l: end }, n)?;
-    code.put(FlatOp::OpWord { w: 0 }, word)
+    let n = put_then(site, code, y, FlatOp::OpGo { l: end }, right)?;
+    code.put(FlatOp::OpWord { w: 0 }, n)
 }
 
-/// The code of `or`: the right operand is skipped where the left one is true.
+/// The code of `or` behind its left operand: the right one is skipped where the left one is true.
 #[cycle(put_expr)]
-fn put_or(
-    site: &Site<'_>,
-    code: &mut Code,
-    x: &CoreExpr,
-    y: &CoreExpr,
-    b: u32,
-) -> Result<u32, AllocError>
-    ensures ops { OnOk result (code.new.ops.items ≡ code.old.ops.items ++ expr_code (site_of site.now) (or_expr (expr_of x.now) (expr_of y.now)) b) }
-    ensures stubs { OnOk result (code.new.stubs.items ≡ code.old.stubs.items ++ expr_stubs (site_of site.now) (or_expr (expr_of x.now) (expr_of y.now)) b) }
-    ensures place { IfOk result (λ next. next ≡ b + expr_size (or_expr (expr_of x.now) (expr_of y.now))) }
+fn put_or(site: &Site<'_>, code: &mut Code, y: &CoreExpr, m: u32) -> Result<u32, AllocError>
+    ensures ops { OnOk result (code.new.ops.items ≡ code.old.ops.items ++ OpUnless (m + 3) ∷ OpWord 1 ∷ OpGo (m + 3 + expr_size (expr_of y.now))
+        ∷ expr_code (site_of site.now) (expr_of y.now) (m + 3)) }
+    ensures stubs { OnOk result (code.new.stubs.items ≡ code.old.stubs.items ++ expr_stubs (site_of site.now) (expr_of y.now) (m + 3)) }
+    ensures place { IfOk result (λ next. next ≡ m + (expr_size (expr_of y.now) + 3)) }
 {
-    let m = put_expr(site, code, x, b)?;
     let right = at(m, 3)?;
     let end = after_expr(right, y)?;
     let word = code.put(FlatOp::OpUnless { l: right }, m)?;

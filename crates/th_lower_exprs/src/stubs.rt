@@ -1,7 +1,8 @@
 //! What stands for where-methods, and stubs.
-ghost use Rattle.std.specs.Prelude.{◌≡◌, ◌+◌, ◌-◌, ◌++◌, ◌∷◌, [], IfOk, OnOk, map, length, option_map};
+ghost use Rattle.std.specs.Prelude.{◌≡◌, ◌+◌, ◌-◌, ◌++◌, ◌∷◌, [], Option, is_some, IfOk, OnOk, map, length};
 ghost use Rattle.th_flat.specs.declared.op.FlatOp.TheVariants.{OpUnitword};
 ghost use Rattle.th_lower_exprs.specs.View.{site_of};
+ghost use Rattle.th_meaning.specs.Trees.{TypeTree};
 ghost use Rattle.th_meaning.specs.View.{supply_of};
 ghost use Rattle.th_lowering.specs.Homes.{MethodShape, home, method_shape};
 ghost use Rattle.th_lowering.specs.Site.{supply_op, supplies_code};
@@ -103,9 +104,17 @@ fn stub_of(site: &Site<'_>, name: Name, of: &Name, method: &Name) -> Result<Flat
 {
     let home = site.types.home(of, method);
     let (formals, gives) = site.types.sizes(of, method);
-    let formals = number(formals)?;
-    let f = if gives { 1 } else { 0 };
-    method_stub(site.alloc, name, of, home, method, formals, f)
+    let count = number(formals)?;
+    let f = flag_of(gives);
+    method_stub(site.alloc, name, of, home, method, count, f)
+}
+
+/// 1 where there is a value.
+#[tactic(auto, using(crate::proofs::Runs::flag_some, crate::proofs::Runs::flag_none))]
+fn flag_of(gives: bool) -> u32
+    ensures { (g : Option TypeTree) → gives ≡ is_some g → flag g ≡ result }
+{
+    if gives { 1 } else { 0 }
 }
 
 /// What stands for a where-method.
