@@ -8,4 +8,3 @@ mod stmts;
 mod units;
 
 pub use modules::lower;
-

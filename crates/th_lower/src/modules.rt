@@ -8,9 +8,7 @@ ghost use Rattle.th_lowering.specs.Module.{lowered_class, lowered_interface, mod
 
 use crate::units::push_unit;
 use std::alloc::{AllocError, Global};
-use th_flat::{
-    Class, ClassList, FlatModule, FlatUnit, FlatUnitList, Iface, IfaceList, NameList,
-};
+use th_flat::{Class, ClassList, FlatModule, FlatUnit, FlatUnitList, Iface, IfaceList, NameList};
 use th_homes::Types;
 use th_lower_exprs::number;
 use th_meaning::{CoreClass, CoreInterface, CoreModule};

@@ -45,12 +45,7 @@ fn put_element(
 }
 
 /// A call as a statement.
-fn put_call(
-    site: &Site<'_>,
-    code: &mut Code,
-    call: &CoreCall,
-    b: u32,
-) -> Result<u32, AllocError>
+fn put_call(site: &Site<'_>, code: &mut Code, call: &CoreCall, b: u32) -> Result<u32, AllocError>
     ensures ops { OnOk result (code.new.ops.items ≡ code.old.ops.items ++ (operands_code (site_of site.now) (call_of call.now) b ++ call_op (site_of site.now) (call_of call.now) 0 ∷ drop_code (call_of call.now))) }
     ensures stubs { OnOk result (code.new.stubs.items ≡ code.old.stubs.items ++ operands_stubs (site_of site.now) (call_of call.now) b) }
     ensures place { IfOk result (λ next. next ≡ b + (operands_size (call_of call.now) + dropped (call_of call.now) + 1)) }
@@ -61,12 +56,7 @@ fn put_call(
 }
 
 /// A call whose value is dropped.
-fn put_dropped(
-    site: &Site<'_>,
-    code: &mut Code,
-    call: &CoreCall,
-    b: u32,
-) -> Result<u32, AllocError>
+fn put_dropped(site: &Site<'_>, code: &mut Code, call: &CoreCall, b: u32) -> Result<u32, AllocError>
     ensures ops { OnOk result (code.new.ops.items ≡ code.old.ops.items ++ (operands_code (site_of site.now) (call_of call.now) b ++ call_op (site_of site.now) (call_of call.now) 1 ∷ OpDrop ∷ [])) }
     ensures stubs { OnOk result (code.new.stubs.items ≡ code.old.stubs.items ++ operands_stubs (site_of site.now) (call_of call.now) b) }
     ensures place { IfOk result (λ next. next ≡ b + (operands_size (call_of call.now) + 2)) }
@@ -208,7 +198,7 @@ fn put_for(
         ++ OpOver (b + operands_size (call_of call.now) + 2 + may_cast_size (option_map cast_of cast.now) + 1 + body_size (body_of body.now)) ∷ call_op (site_of site.now) (call_of call.now) 0
         ∷ (may_cast_code (option_map cast_of cast.now) ++ OpSet (word_of (site_of site.now) variable.now.local)
         ∷ (body_code (site_of site.now) (body_of body.now) (b + operands_size (call_of call.now) + 2 + may_cast_size (option_map cast_of cast.now) + 1)
-            (b + operands_size (call_of call.now) + 2 + may_cast_size (option_map cast_of cast.now) + 1 + body_size (body_of body.now) + 1) ++ OpNext ∷ [])))) }
+        (b + operands_size (call_of call.now) + 2 + may_cast_size (option_map cast_of cast.now) + 1 + body_size (body_of body.now) + 1) ++ OpNext ∷ [])))) }
     ensures stubs { OnOk result (code.new.stubs.items ≡ code.old.stubs.items ++ (operands_stubs (site_of site.now) (call_of call.now) b
         ++ body_stubs (site_of site.now) (body_of body.now) (b + operands_size (call_of call.now) + 2 + may_cast_size (option_map cast_of cast.now) + 1))) }
     ensures place { IfOk result (λ next. next ≡ b + (operands_size (call_of call.now) + may_cast_size (option_map cast_of cast.now) + body_size (body_of body.now) + 4)) }

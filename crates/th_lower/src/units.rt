@@ -23,20 +23,8 @@ fn kind_of(kind: &UnitKind, iterator: bool) -> u8
     ensures { result ≡ kind_of (sort_of kind.now) iterator }
 {
     match kind {
-        UnitKind::Routine => {
-            if iterator {
-                1
-            } else {
-                0
-            }
-        }
-        UnitKind::Method(_, _) => {
-            if iterator {
-                3
-            } else {
-                2
-            }
-        }
+        UnitKind::Routine => { if iterator { 1 } else { 0 } }
+        UnitKind::Method(_, _) => { if iterator { 3 } else { 2 } }
         UnitKind::Init(_) => 4,
     }
 }

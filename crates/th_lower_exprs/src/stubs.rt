@@ -144,12 +144,7 @@ fn put_supply(
 }
 
 /// Writes a stub, and the operation that pushes its word.
-fn put_stub(
-    site: &Site<'_>,
-    code: &mut Code,
-    stub: FlatUnit,
-    b: u32,
-) -> Result<u32, AllocError>
+fn put_stub(site: &Site<'_>, code: &mut Code, stub: FlatUnit, b: u32) -> Result<u32, AllocError>
     ensures ops { OnOk result (code.new.ops.items ≡ code.old.ops.items ++ OpUnitword stub.name ∷ []) }
     ensures stubs { OnOk result (code.new.stubs.items ≡ code.old.stubs.items ++ stub ∷ []) }
     ensures place { IfOk result (λ next. next ≡ b + 1) }
