@@ -28,6 +28,36 @@ fn compare_word(op: CompareOp) -> &'static str {
     }
 }
 
+/// How an expression begins.
+fn word_of(expr: &CoreExpr) -> &'static str {
+    match expr {
+        CoreExpr::Truth(true) => " true",
+        CoreExpr::Truth(false) => " false",
+        CoreExpr::PartSelf => " self",
+        CoreExpr::GetByte => " get_byte",
+        CoreExpr::Negative(_) => " (neg",
+        CoreExpr::Arith(op, _, _) => arith_word(*op),
+        CoreExpr::Compare(op, _, _) => compare_word(*op),
+        CoreExpr::Same(_, _) => " (==",
+        CoreExpr::Not(_) => " (not",
+        CoreExpr::And(_, _) => " (and",
+        CoreExpr::Or(_, _) => " (or",
+        CoreExpr::Join(_, _) => " (&",
+        CoreExpr::Letter(_, _) => " (letter",
+        CoreExpr::Extent(_) => " (extent",
+        CoreExpr::Element(_, _) => " (element",
+        CoreExpr::Length(_) => " (length",
+        CoreExpr::Cast(_, _) => " (cast",
+        CoreExpr::New(_, _, _, _) => " (new",
+        CoreExpr::NewArray(_, _, _) => " (new_array",
+        CoreExpr::Number(_)
+        | CoreExpr::Literal(_)
+        | CoreExpr::Local(_)
+        | CoreExpr::Field(_, _)
+        | CoreExpr::Call(_) => "",
+    }
+}
+
 impl Writer {
     /// Puts bytes in quotes.
     fn literal(&mut self, bytes: &[u8]) -> Result<(), AllocError> {
@@ -38,67 +68,79 @@ impl Writer {
         self.word("\"")
     }
 
+    /// Puts an item, the types that it is used with, and what stands for its where-methods.
+    fn item(
+        &mut self,
+        item: &Name,
+        types: &CoreTypeList,
+        supplies: &[CoreSupply],
+    ) -> Result<(), AllocError> {
+        self.name(" ", item)?;
+        self.types(types)?;
+        for supply in supplies {
+            self.supply(supply)?;
+        }
+        Ok(())
+    }
+
+    /// Puts these letters and a method of a type or of a class.
+    fn method(&mut self, before: &str, of: &Name, method: &Name) -> Result<(), AllocError> {
+        self.name(before, of)?;
+        self.name(".", method)
+    }
+
     /// Puts an expression.
     #[cycle(exprs)]
     pub fn expr(&mut self, expr: &CoreExpr) -> Result<(), AllocError> {
+        self.word(word_of(expr))?;
         match expr {
-            CoreExpr::Number(number) => self.number(" ", *number),
-            CoreExpr::Truth(truth) => self.word(if *truth { " true" } else { " false" }),
-            CoreExpr::Literal(bytes) => self.literal(bytes.as_slice()),
-            CoreExpr::PartSelf => self.word(" self"),
-            CoreExpr::Local(local) => self.number(" %", *local),
+            CoreExpr::Truth(_) | CoreExpr::PartSelf | CoreExpr::GetByte => return Ok(()),
+            CoreExpr::Number(number) => return self.number(" ", *number),
+            CoreExpr::Literal(bytes) => return self.literal(bytes.as_slice()),
+            CoreExpr::Local(local) => return self.number(" %", *local),
             CoreExpr::Field(class, place) => {
                 self.name(" ", class)?;
-                self.number(".", *place)
+                return self.number(".", *place);
             }
-            CoreExpr::Negative(a) => self.one(" (neg", a),
-            CoreExpr::Arith(op, a, b) => self.two(arith_word(*op), a, b),
-            CoreExpr::Compare(op, a, b) => self.two(compare_word(*op), a, b),
-            CoreExpr::Same(a, b) => self.two(" (==", a, b),
-            CoreExpr::Not(a) => self.one(" (not", a),
-            CoreExpr::And(a, b) => self.two(" (and", a, b),
-            CoreExpr::Or(a, b) => self.two(" (or", a, b),
-            CoreExpr::Join(a, b) => self.two(" (&", a, b),
-            CoreExpr::Letter(a, b) => self.two(" (letter", a, b),
-            CoreExpr::Extent(a) => self.one(" (extent", a),
-            CoreExpr::Element(a, b) => self.two(" (element", a, b),
-            CoreExpr::Length(a) => self.one(" (length", a),
+            CoreExpr::Call(call) => return self.call(call),
+            CoreExpr::Negative(a) | CoreExpr::Not(a) | CoreExpr::Extent(a) | CoreExpr::Length(a) =>
+                self.expr(a)?,
+            CoreExpr::Arith(_, a, b) => {
+                self.expr(a)?;
+                self.expr(b)?;
+            }
+            CoreExpr::Compare(_, a, b) => {
+                self.expr(a)?;
+                self.expr(b)?;
+            }
+            CoreExpr::Same(a, b)
+            | CoreExpr::And(a, b)
+            | CoreExpr::Or(a, b)
+            | CoreExpr::Join(a, b)
+            | CoreExpr::Letter(a, b)
+            | CoreExpr::Element(a, b) => {
+                self.expr(a)?;
+                self.expr(b)?;
+            }
             CoreExpr::Cast(cast, a) => {
-                self.word(" (cast")?;
                 self.of_type(&cast.from)?;
                 self.of_type(&cast.to)?;
-                self.one("", a)
+                self.expr(a)?;
             }
-            CoreExpr::Call(call) => self.call(call),
             CoreExpr::New(class, types, supplies, args) => {
-                self.used(" (new ", class, types, supplies, args)
+                self.item(class, types, supplies)?;
+                self.args(args)?;
             }
             CoreExpr::NewArray(of, length, value) => {
-                self.word(" (new_array")?;
                 self.of_type(of)?;
-                self.two("", length, value)
+                self.expr(length)?;
+                self.expr(value)?;
             }
-            CoreExpr::GetByte => self.word(" get_byte"),
         }
-    }
-
-    /// Puts the last part of what begins with these letters.
-    #[cycle(exprs)]
-    pub fn one(&mut self, before: &str, a: &CoreExpr) -> Result<(), AllocError> {
-        self.word(before)?;
-        self.expr(a)?;
         self.word(")")
     }
 
-    /// Puts the last two parts of what begins with these letters.
-    #[cycle(exprs)]
-    pub fn two(&mut self, before: &str, a: &CoreExpr, b: &CoreExpr) -> Result<(), AllocError> {
-        self.word(before)?;
-        self.expr(a)?;
-        self.one("", b)
-    }
-
-    /// Puts arguments, the last parts of what began before.
+    /// Puts arguments.
     #[cycle(exprs)]
     fn args(&mut self, args: &CoreExprList) -> Result<(), AllocError> {
         let mut rest = args;
@@ -106,25 +148,7 @@ impl Writer {
             self.expr(first)?;
             rest = next;
         }
-        self.word(")")
-    }
-
-    /// Puts what is used with types: these letters, the item, the types, what stands for its where-methods, and arguments.
-    #[cycle(exprs)]
-    fn used(
-        &mut self,
-        before: &str,
-        item: &Name,
-        types: &CoreTypeList,
-        supplies: &[CoreSupply],
-        args: &CoreExprList,
-    ) -> Result<(), AllocError> {
-        self.name(before, item)?;
-        self.types(types)?;
-        for supply in supplies {
-            self.supply(supply)?;
-        }
-        self.args(args)
+        Ok(())
     }
 
     /// Puts a call.
@@ -132,33 +156,49 @@ impl Writer {
     pub fn call(&mut self, call: &CoreCall) -> Result<(), AllocError> {
         match call {
             CoreCall::Routine(item, types, supplies, args) => {
-                self.used(" (call ", item, types, supplies, args)
+                self.word(" (call")?;
+                self.item(item, types, supplies)?;
+                self.args(args)?;
             }
             CoreCall::SuperInit(class, types, supplies, args) => {
-                self.used(" (super_init ", class, types, supplies, args)
+                self.word(" (super_init")?;
+                self.item(class, types, supplies)?;
+                self.args(args)?;
             }
             CoreCall::Method(of, method, receiver, args) => {
-                self.name(" (method ", of)?;
-                self.name(".", method)?;
+                self.method(" (method ", of, method)?;
                 self.expr(receiver)?;
-                self.args(args)
+                self.args(args)?;
             }
             CoreCall::Where(place, method, receiver, args) => {
                 self.number(" (clause ", *place)?;
                 self.name(".", method)?;
                 self.expr(receiver)?;
-                self.args(args)
+                self.args(args)?;
             }
             CoreCall::Hidden(class, method, args) => {
-                self.name(" (hidden ", class)?;
-                self.name(".", method)?;
-                self.args(args)
+                self.method(" (hidden ", class, method)?;
+                self.args(args)?;
             }
             CoreCall::Super(class, method, args) => {
-                self.name(" (super ", class)?;
-                self.name(".", method)?;
-                self.args(args)
+                self.method(" (super ", class, method)?;
+                self.args(args)?;
             }
         }
+        self.word(")")
+    }
+
+    /// Puts the last part of what begins with these letters.
+    pub fn one(&mut self, before: &str, a: &CoreExpr) -> Result<(), AllocError> {
+        self.word(before)?;
+        self.expr(a)?;
+        self.word(")")
+    }
+
+    /// Puts the last two parts of what begins with these letters.
+    pub fn two(&mut self, before: &str, a: &CoreExpr, b: &CoreExpr) -> Result<(), AllocError> {
+        self.word(before)?;
+        self.expr(a)?;
+        self.one("", b)
     }
 }

@@ -44,7 +44,7 @@ impl Writer {
             CoreStmt::If(test, body, rest) => {
                 self.one(" (if", test)?;
                 self.body(body)?;
-                self.rest(rest)
+                self.others(rest)
             }
             CoreStmt::While(test, body) => {
                 self.one(" (while", test)?;
@@ -97,8 +97,8 @@ impl Writer {
 
     /// Puts what follows the statements after a `then`.
     #[cycle(stmts)]
-    fn rest(&mut self, rest: &CoreElse) -> Result<(), AllocError> {
-        let mut rest = rest;
+    fn others(&mut self, tree: &CoreElse) -> Result<(), AllocError> {
+        let mut rest = tree;
         while let CoreElse::Elseif(test, body, next) = rest {
             self.one(" (elseif", test)?;
             self.body(body)?;
