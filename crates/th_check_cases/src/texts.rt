@@ -1,10 +1,10 @@
 //! The texts of a case, judged up to the unit that is asked about.
 ghost use Rattle.std.specs.Prelude.{◌≡◌, ◌≤◌, ℕ, List, IsTrue, IfOk, Some, length, map, slice_get};
-ghost use Rattle.th_tree.specs.DeclView.{module_of};
+ghost use Rattle.th_tree.specs.DeclView.{interface_of, module_of};
 ghost use Rattle.th_type.specs.Ways.{WaysEnd};
 ghost use Rattle.th_module_rules.specs.Texts.{HasNames, HasOwnNames};
 ghost use Rattle.th_texts.specs.Reading.{AreShort};
-ghost use Rattle.th_program.specs.Programs.{Ascending, IsPaired, program_of};
+ghost use Rattle.th_program.specs.Programs.{Ascending, IsPaired, program, program_of};
 
 use crate::answers::{Kind, unit_answer};
 use crate::units::{Frame, first_unit};
@@ -125,21 +125,42 @@ fn module_answer(
     known_answer(alloc, kind, &env, found, program)
 }
 
+/// The answer on the first of the modules with these interfaces, each of which is the text of its number.
+#[tactic(auto, using(crate::proofs::Named::first_named))]
+fn program_answer(
+    alloc: Global,
+    kind: Kind,
+    names: &mut NameTable,
+    interface_texts: &[u32],
+    interfaces: &[Interface],
+    module_texts: &[u32],
+    modules: &[Module],
+    hierarchy: &Hierarchy,
+) -> Result<String>
+    requires named { HasNames (program names.old interface_texts.now (map interface_of interfaces.now) module_texts.now (map module_of modules.now)) }
+    requires ends { WaysEnd hierarchy.now.types }
+{
+    let Some(text) = module_texts.first() else {
+        bail!("there is no text");
+    };
+    let Some(tree) = modules.first() else {
+        bail!("there is no text");
+    };
+    module_answer(alloc, kind, names, *text, tree, interfaces, hierarchy)
+}
+
 /// The answer on texts, of which the first is a module and the others are interfaces.
 pub fn answer(alloc: Global, kind: Kind, texts: &[Vec<u8>]) -> Result<String> {
     let mut trees = trees_of(alloc, texts)?;
     let hierarchy = hierarchy_of(alloc, &mut trees)?;
-    let (Some(program), Some(text)) = (trees.modules.first(), trees.module_texts.first()) else {
-        bail!("there is no text");
-    };
-    let interfaces = &trees.interfaces;
-    module_answer(
+    program_answer(
         alloc,
         kind,
         &mut trees.names,
-        *text,
-        program,
-        interfaces,
+        &trees.interface_texts,
+        &trees.interfaces,
+        &trees.module_texts,
+        &trees.modules,
         &hierarchy,
     )
 }
