@@ -1,0 +1,15 @@
+mod Follow
+mod Standing
+mod Acts
+mod Lawful
+mod LevelTwo
+mod Programs
+mod Alike
+mod Keeping
+mod Simulation
+mod Runs
+mod PlaceLemmas
+mod HandlerLemmas
+mod ImageLemmas
+mod Origins
+mod Pace
