@@ -6,10 +6,10 @@ use Rattle.std.specs.List.{range_with_len}
 use Rattle.std.proofs.lemmas.Bool.{cases_lt}
 use Rattle.std.proofs.lemmas.List.FromFn.{length-map-range_with_len, get_or-map-range_with_len}
 use Rattle.th_flat.specs.declared.op.FlatOp.{FlatOp}
-use Rattle.th_flat.specs.declared.op.FlatOp.TheVariants.{OpLeave}
+use Rattle.th_flat.specs.declared.op.FlatOp.TheVariants.{OpLeave, OpBlock, OpHandle}
 use Rattle.th_flat.specs.declared.module.FlatUnit.{FlatUnit}
 use Rattle.th_flat.specs.Configs.{cover_upto, handler}
-use Rattle.th_raise.specs.Table.{place, landing, target, image_by, image, images}
+use Rattle.th_raise.specs.Table.{place, landing, target, with_labels, image_by, image, images}
 use Rattle.th_raise.specs.Marks.{places_of, place_at, landing_at, landings_of, failure_at, image_at, images_at}
 
 -- one operation more
@@ -81,3 +81,14 @@ images_are u = images_same u 0 u.ops (omega arith)
 
 pub landings_length : (ops : List FlatOp) (places : List ℕ) → length (landings_of ops places) ≡ length ops
 landings_length ops places = length-map-range_with_len (λ p. landing_at places (cover_upto ops p p)) 0 (length ops)
+
+-- an operation that is neither a block nor a handler
+pub kept_image_by : (way failure : ℕ → ℕ) (op : FlatOp) → ((h e : ℕ) → op ≡ OpBlock h e → ⊥) → ((name : List ℕ) (f l : ℕ) → op ≡ OpHandle name f l → ⊥) → image_by way failure op ≡ with_labels way failure op ∷ []
+kept_image_by way failure (OpBlock h e) a b = absurd (a h e refl)
+kept_image_by way failure (OpHandle name f l) a b = absurd (b name f l refl)
+kept_image_by way failure _ a b = refl
+
+-- a unit with what stands for its operations
+pub unit_is : (u : FlatUnit) (places landings : List ℕ) (ops : List FlatOp) → places ≡ places_of u.ops → landings ≡ landings_of u.ops places → ops ≡ images_at places landings 0 u.ops ++ OpLeave ∷ [] → ops ≡ images u 0 u.ops
+unit_is u places landings ops a b e =
+    e ∙ ap (λ x. images_at places x 0 u.ops ++ OpLeave ∷ []) b ∙ ap (λ x. images_at x (landings_of u.ops x) 0 u.ops ++ OpLeave ∷ []) a ∙ images_are u
