@@ -7,3 +7,4 @@ pub mod Outside
 pub mod Table
 pub mod Entry
 pub mod Labels
+pub mod Relocs

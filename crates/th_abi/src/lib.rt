@@ -9,11 +9,13 @@ mod numbers;
 mod outside;
 mod place;
 mod register;
+mod reloc;
 mod sequences;
 mod table;
 mod word;
 
 pub use entries::entry;
 pub use place::home;
+pub use reloc::Reloc;
 pub use table::pattern;
 pub use word::{Failure, Home, Part, PatternWord, RelocKind, Words};

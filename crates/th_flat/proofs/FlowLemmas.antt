@@ -1,17 +1,17 @@
 -- What is learned of the heights of a unit's stack.
-use Rattle.std.proofs.Common.{◌≡◌, ◌≢◌, ◌⊎◌, ℕ, zero, suc, ◌+◌, ◌-◌, ◌<◌, ◌≤◌, List, [], ◌∷◌, ◌++◌, length, Option, Some, None, Bool, true, false, nat_eq, take, refl, sym, ap, ◌∙◌, subst, ⊎_elim, inl, inr, arith, length-append}
-use Rattle.std.specs.Prelude.{slice_get, slice_set, slice_index_or, option_map, Contains, replicate, IfSome, if◌then◌else◌}
+use Rattle.std.proofs.Common.{◌≡◌, ◌≢◌, ◌⊎◌, ℕ, zero, suc, ◌+◌, ◌-◌, ◌<◌, ◌≤◌, List, [], ◌∷◌, ◌++◌, length, Option, Some, None, Bool, true, false, nat_eq, take, map, refl, sym, ap, ◌∙◌, subst, ⊎_elim, inl, inr, arith, length-append}
+use Rattle.std.specs.Prelude.{slice_get, slice_set, slice_index_or, option_map, Contains, replicate, IfSome, unwrap_or, if◌then◌else◌}
 use Rattle.std.proofs.lemmas.Bool.{cases_eq}
-use Rattle.std.proofs.lemmas.List.{length-set, length-replicate}
+use Rattle.std.proofs.lemmas.List.{length-set, length-replicate, length-map}
 use Rattle.std.proofs.lemmas.List.Elements.{Contains-push, Contains-push_cases, Contains-append_left}
-use Rattle.std.proofs.lemmas.Option.{slice_get-get_or, slice_get_within}
+use Rattle.std.proofs.lemmas.Option.{slice_get-get_or, slice_get_within, slice_get-map}
 use Rattle.th_flat.specs.declared.module.FlatUnit.{FlatUnit}
 use Rattle.th_flat.specs.declared.flow.Arrival.{Arrival}
 use Rattle.th_flat.specs.declared.op.FlatOp.{FlatOp}
 use Rattle.th_flat.specs.declared.shape.Shape.{Shape}
 use Rattle.th_flat.specs.Effects.{shape_of}
-use Rattle.th_flat.specs.WellFormed.{Leads, On, Goes, Fails, Reached, Starts, Comes, HasHeights, first_height}
-use Rattle.th_flat.specs.Flow.{Knows, IsSound, Grows, IsSettled, IsOnWay, unknown}
+use Rattle.th_flat.specs.WellFormed.{Leads, On, Goes, Fails, Reached, Starts, Comes, HasHeights, AreHeights, first_height}
+use Rattle.th_flat.specs.Flow.{Knows, IsSound, Grows, IsSettled, IsOnWay, AreKnown, unknown}
 
 abbrev record_of : ℕ → ℕ → Arrival
 record_of p h = record { place = p; height = h }
@@ -304,3 +304,25 @@ start_reached u h e = subst (λ x. Reached u 0 x) (sym e) Starts
 -- what is left where nothing was taken
 pub emptied : {X : Type 0} (all ps : List X) (n : ℕ) → all ≡ ps ++ [] → ps ≡ take (n - 1) all → n ≡ 0 → all ≡ []
 emptied all ps n e rest none = e ∙ ap (λ l. l ++ []) (rest ∙ ap (λ k. take (k - 1) all) none)
+
+-- what is known once all ways were followed
+pub all_ways : (u : FlatUnit) (hs : List (Option ℕ)) (ps : List Arrival) → IsOnWay u hs ps → ps ≡ [] → Knows hs 0 (first_height u.kind) → AreKnown u hs
+all_ways u hs ps on none first = record { sound = on.sound; all = all_known u hs ps on none first; has = all_found u hs ps on none first }
+
+-- the heights of a unit from what is known of its places
+pub known_heights : (u : FlatUnit) (hs : List (Option ℕ)) → AreKnown u hs → AreHeights u (map (λ h. unwrap_or h 0) hs)
+known_heights u hs k = record { size = length-map hs (λ h. unwrap_or h 0) ∙ k.sound.size; reached = reached; unreached = unreached }
+  where
+    number : Option ℕ → ℕ
+    number h = unwrap_or h 0
+
+    reached : (p h : ℕ) → Reached u p h → slice_get (map number hs) p ≡ Some h
+    reached p h r = slice_get-map number hs p ∙ ap (option_map number) (k.all p h r)
+
+    nothing : (p : ℕ) → ((h : ℕ) → Reached u p h → ⊥) → (o : Option (Option ℕ)) → slice_get hs p ≡ o → p < length hs → option_map number (slice_get hs p) ≡ Some 0
+    nothing p none None e less = absurd (nothing_there hs p e less)
+    nothing p none (Some None) e less = ap (option_map number) e
+    nothing p none (Some (Some h)) e less = absurd (none h (k.sound.reached p h e))
+
+    unreached : (p : ℕ) → p < length u.ops → ((h : ℕ) → Reached u p h → ⊥) → slice_get (map number hs) p ≡ Some 0
+    unreached p less none = slice_get-map number hs p ∙ nothing p none (slice_get hs p) refl (let same : length hs ≡ length u.ops = k.sound.size in omega arith)

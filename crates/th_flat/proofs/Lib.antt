@@ -5,4 +5,4 @@ pub mod Bare
 pub mod Weighing
 pub mod Bridge
 pub mod Shapes
-pub mod Heights
+pub mod RunHeights

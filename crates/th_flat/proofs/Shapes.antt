@@ -13,14 +13,7 @@ use Rattle.th_flat.specs.Values.{View, as_whole, at_type, FlatValue, Int, Ref, T
 use Rattle.th_flat.specs.Program.{FlatProgram}
 use Rattle.th_flat.specs.Deeds.{Act, Falls, Jumps, Loads, Stores, Failing, Calls, Leaves, Yields, Nexts, Opens, OpensBody, Puts, Stands, Charge, no_charge, Deed, free, stuck_act, on_effect, on_top, on_int, on_ref, on_text, on_code, on_whole, on_seen, on_some, on_test, off, off_two, on_class, on_self, arith_value, push_number, arith_deed, at_zero, calling, on_receiver, array_deed, append_deed, value_for, end_exception, caught_deed, is_thrown, if_fine, stopped_act, doing}
 use Rattle.th_flat.specs.Configs.{way_of, failure_of}
-
--- all units that operations can name are well formed
-pub record AreWellFormed (p : FlatProgram) : Type 0 where
-  pub unit : (name : List ℕ) (u : FlatUnit) → p.unit name ≡ Some u → WellFormed u
-  pub main : (u : FlatUnit) → p.main ≡ Some u → WellFormed u
-  pub called : (name : List ℕ) (u : FlatUnit) → p.called name ≡ Some u → WellFormed u
-  pub dispatched : (head method class : List ℕ) (u : FlatUnit) → p.dispatched head method class ≡ Some u → WellFormed u
-  pub hidden : (class method of : List ℕ) (u : FlatUnit) → p.hidden class method of ≡ Some u → WellFormed u
+use Rattle.th_flat.specs.Heights.{AreWellFormed}
 
 -- what an act of an operation of this shape leaves of a stack of height h
 abbrev pub ActFits : Shape → ℕ → Act → Type 0

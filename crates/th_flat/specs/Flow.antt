@@ -4,7 +4,7 @@ use Rattle.th_flat.specs.declared.op.FlatOp.{FlatOp}
 use Rattle.th_flat.specs.declared.module.FlatUnit.{FlatUnit}
 use Rattle.th_flat.specs.declared.flow.Arrival.{Arrival}
 use Rattle.th_flat.specs.Effects.{shape_of}
-use Rattle.th_flat.specs.WellFormed.{Reached, Leads}
+use Rattle.th_flat.specs.WellFormed.{Reached, Leads, HasHeights}
 
 -- place p is known to have height h
 abbrev pub Knows : List (Option ℕ) → ℕ → ℕ → Type 0
@@ -40,3 +40,9 @@ pub record IsOnWay (u : FlatUnit) (heights : List (Option ℕ)) (pending : List 
   pub sound : IsSound u heights
   pub known : (a : Arrival) → Contains pending a → Knows heights a.place a.height
   pub settled : (p h : ℕ) → Knows heights p h → Contains pending (record { place = p; height = h }) ⊎ IsSettled u heights p h
+
+-- all ways were followed
+pub record AreKnown (u : FlatUnit) (heights : List (Option ℕ)) : Type 0 where
+  pub sound : IsSound u heights
+  pub all : (p h : ℕ) → Reached u p h → Knows heights p h
+  pub has : HasHeights u

@@ -9,3 +9,4 @@ pub mod Runs
 pub mod Frames
 pub mod Orderly
 pub mod Pace
+pub mod Heights

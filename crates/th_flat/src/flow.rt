@@ -1,12 +1,13 @@
 //! The heights of the stack, found by following all ways through a unit.
 ghost use Rattle.std.specs.Prelude.{◌≡◌, ◌<◌, ◌≤◌, ◌+◌, ◌++◌, [], ◌∷◌, length, slice_get, slice_set, Some, true, false, IfOk, OnOk, IfSome, IsTrue, ◌↔◌, option_map, replicate, None};
 ghost use Rattle.th_flat.specs.Effects.{shape_of};
-ghost use Rattle.th_flat.specs.WellFormed.{Reached, HasHeights, first_height};
-ghost use Rattle.th_flat.specs.Flow.{Knows, IsSound, Grows, IsSettled, IsOnWay};
+ghost use Rattle.th_flat.specs.WellFormed.{Reached, HasHeights, WellFormed, AreHeights, first_height};
+ghost use Rattle.th_flat.specs.Flow.{Knows, IsSound, Grows, IsSettled, IsOnWay, AreKnown};
 
 use crate::module::FlatUnit;
 use crate::shape::{Shape, next_of, shape_of};
 use std::alloc::{AllocError, Global};
+use std::marker::Model;
 
 /// A way comes to a place with so many words on the stack.
 #[derive(Clone, Copy, Drop)]
@@ -155,19 +156,88 @@ fn first_height(kind: u8) -> usize
     if kind == 5 { 1 } else { 0 }
 }
 
+/// What is known of the heights once all ways through a unit were followed; None where a way leads past the last operation, takes
+/// more words than there are, or meets another height.
+#[derive(Drop)]
+struct Known {
+    heights: Vec<Option<usize>>,
+}
+
+/// Follows all ways through a unit.
+fn followed(alloc: Global, unit: &FlatUnit) -> Result<Option<Known>, AllocError>
+    ensures found { IfOk result (λ r. IfSome r (λ known. AreKnown unit.now known.heights.items)) }
+    ensures none { IfOk result (λ r. r ≡ None → HasHeights unit.now → ⊥) }
+{
+    let mut flow = Flow::of(alloc, unit.ops.len())?;
+    if !flow.arrive(unit, 0, first_height(unit.kind))? {
+        return Ok(None);
+    }
+    'ways: while let Some(at) = flow.pending.pop() {
+        if !flow.follow(unit, at)? {
+            return Ok(None);
+        }
+    }
+    Ok(Some(Known {
+        heights: flow.heights,
+    }))
+}
+
 /// Whether no way leads past the last operation, and each operation has one height of the stack over all ways, which is at
 /// most the unit's depth and not below what the operation takes.
 pub fn has_heights(alloc: Global, unit: &FlatUnit) -> Result<bool, AllocError>
     ensures { IfOk result (λ good. IsTrue good ↔ HasHeights unit.now) }
 {
-    let mut flow = Flow::of(alloc, unit.ops.len())?;
-    if !flow.arrive(unit, 0, first_height(unit.kind))? {
-        return Ok(false);
+    Ok(followed(alloc, unit)?.is_some())
+}
+
+/// The height of the stack at each operation of a unit, 0 where no way comes. A contract sees the list of the heights.
+#[derive(Drop)]
+pub struct HeightList {
+    known: Vec<Option<usize>>,
+}
+
+impl Model for HeightList {
+    ghost use Rattle.std.specs.Prelude.{List, ℕ, map, unwrap_or};
+
+    ghost Value = { List ℕ };
+
+    ghost view = { λ a. map (λ h. unwrap_or h 0) a.known.items };
+}
+
+impl HeightList {
+    /// How many operations have a height.
+    pub fn len(&self) -> usize
+        ensures { result ≡ length self.now }
+    {
+        self.known.len()
     }
-    'ways: while let Some(at) = flow.pending.pop() {
-        if !flow.follow(unit, at)? {
-            return Ok(false);
-        }
+
+    /// The height at the operation at place `k`, from 0; None exactly where `k` is not below the length.
+    pub fn get(&self, k: usize) -> Option<usize>
+        ensures { result ≡ slice_get self.now k }
+    {
+        self.known.get(k).map(|height| height.unwrap_or(0))
     }
-    Ok(true)
+}
+
+/// The heights of a unit whose ways were all followed.
+fn listed(unit: &FlatUnit, found: Known) -> HeightList
+    requires { AreKnown unit.now found.heights.items }
+    ensures { AreHeights unit.now result }
+{
+    let _unit = unit;
+    HeightList {
+        known: found.heights,
+    }
+}
+
+/// The height of the stack at each operation of a well-formed unit of level 3, over all ways; 0 where no way comes.
+pub fn heights(alloc: Global, unit: &FlatUnit) -> Result<HeightList, AllocError>
+    requires { WellFormed unit.now }
+    ensures { IfOk result (λ heights. AreHeights unit.now heights) }
+{
+    match followed(alloc, unit)? {
+        Some(found) => Ok(listed(unit, found)),
+        None => unreachable!(),
+    }
 }

@@ -1,7 +1,7 @@
 use Rattle.std.specs.Prelude.{◌+◌, length}
 use Rattle.th_flat.specs.WellFormed.{first_height}
 use Rattle.th_flat.specs.Flow.{Knows, IsOnWay, unknown}
-use Rattle.th_flat.proofs.flow.has_heights.Given as goal
+use Rattle.th_flat.proofs.flow.followed.Given as goal
 
 abbrev pub invariant-ways : goal.invariant-ways
 invariant-ways l = IsOnWay l.unit l.flow.heights.items l.flow.pending.items × Knows l.flow.heights.items 0 (first_height l.unit.kind)

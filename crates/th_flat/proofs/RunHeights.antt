@@ -14,7 +14,8 @@ use Rattle.th_flat.specs.Program.{FlatProgram}
 use Rattle.th_flat.specs.Deeds.{Act, Falls, Jumps, Loads, Stores, Failing, Calls, Leaves, Yields, Nexts, Opens, OpensBody, Puts, Stands, Charge, no_charge, takes_turns, takes_room, takes_both, free, doing}
 use Rattle.th_flat.specs.Configs.{Loop, NoLoop, Upto, ByUnit, Here, Stack, Bottom, Call, Paused, Config, Run, Entering, Visiting, Returned, Putting, Over, stuck, weight_of, room_of, is_body, is_iterator, frame, words_of, self_of, kept, leaves_body, is_empty, go_to, body_ends, ends_as, cover_upto, handler, fail_at, fail_to, jump_to, way_of, failure_of, is_call, shares_words, loaded, visit, gives_result, with_value, has_right_loop, can_enter, entered, finish, op_deed, seen_at_result, back_fine, back_by, back_seen, back_at, deed, world_of, on_charge, paid, step, steps}
 use Rattle.th_flat.specs.Runs.{start, begin}
-use Rattle.th_flat.proofs.Shapes.{AreWellFormed, ActFits, doing_fits, way_is, failure_is}
+use Rattle.th_flat.specs.Heights.{AreWellFormed, RunsAreAtHeights}
+use Rattle.th_flat.proofs.Shapes.{ActFits, doing_fits, way_is, failure_is}
 
 -- an activation waits at an operation that took its operands
 pub record Waits (u : FlatUnit) (at : ℕ) (st : List FlatValue) : Type 0 where
@@ -269,3 +270,6 @@ module _ (p : FlatProgram) where
     pub run_heights : (input : List ℕ) (room : Option ℕ) (turns n : ℕ) (u : FlatUnit) (at : ℕ) (loop : Loop) (here : Here) (held below : Stack) (w : FlatWorld) (heights : List ℕ)
         → AreHeights u heights → steps p n (begin p.main (start input room turns)) ≡ Run u at loop here held below w → slice_get heights at ≡ Some (length here.stack)
     run_heights input room turns n u at loop here held below w heights are e = are.reached at (length here.stack) (run_reaches input room turns n u at loop here held below w e)
+
+pub runs_at_heights : RunsAreAtHeights
+runs_at_heights p all = run_heights p all
